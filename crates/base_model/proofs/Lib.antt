@@ -1,0 +1,3 @@
+pub mod UvarintLemmas
+pub mod ReadNumbers
+pub mod GrownLemmas
