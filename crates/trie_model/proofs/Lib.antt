@@ -1,0 +1,20 @@
+pub mod Lists
+pub mod Bits
+pub mod BitsAt
+pub mod HashedString
+pub mod Keys
+pub mod Unfold
+pub mod Groups
+pub mod Children
+pub mod Rising
+pub mod Entries
+pub mod Sound
+pub mod Valid
+pub mod Roots
+pub mod KeySets
+pub mod NodeKeys
+pub mod Tables
+mod Rows
+pub mod StoredBits
+pub mod StoredFields
+pub mod StoredNodes
