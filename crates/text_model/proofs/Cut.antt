@@ -1,0 +1,142 @@
+-- The lines of an input of which only the front is read.
+use Rattle.std.proofs.Common.{◌≡◌, ℕ, ◌+◌, ◌-◌, ◌≤◌, ◌==◌, Bool, true, false, nat_le, cond, List, [], ◌∷◌, ◌++◌, length, take, drop, slice_index, refl, sym, ap, ◌∙◌, Option, Some, None, arith, length-append, take-append-drop}
+use Rattle.std.specs.List.{slice_split, onto_first}
+use Rattle.std.specs.Str.Lines.{lines, lines_of_parts, strip_carriage_return}
+use Rattle.std.proofs.lemmas.Bool.Decides.{nat_tests}
+use Rattle.std.proofs.lemmas.List.{take-append-le, length-take-le, append-nil}
+use Rattle.text_model.specs.Lines.{is_newline, is_overlong, cut_line, lines_of_cut, lines_within}
+use Rattle.text_model.specs.PutLines.{Line, line_of, first_bad, first_bad_after}
+use Rattle.text_model.specs.Laws.{CutLines, BadLineStays}
+
+cut_front : (limit : ℕ) (front x : List ℕ) → length front ≡ limit + 1 → lines_within limit (front ++ x) ≡ lines_of_cut (slice_split is_newline (take limit front))
+cut_front limit front x long =
+    let t : nat_le (length (front ++ x)) limit ≡ false = grind (arith, nat_tests, length-append front x) in
+    rw (t, take-append-le limit front x (omega arith)) refl
+
+all_lines : (limit : ℕ) (bytes : List ℕ) → length bytes ≤ limit → lines_within limit bytes ≡ lines bytes
+all_lines limit bytes le =
+    let t : nat_le (length bytes) limit ≡ true = grind (arith, nat_tests) in
+    rw t refl
+
+-- which lines are read, by the limit
+pub cut_lines : CutLines
+cut_lines = (λ limit front x y long. cut_front limit front x long ∙ sym (cut_front limit front y long), all_lines)
+
+-- ---- the parts of two texts together
+-- parts, of which the last goes on in the first of others
+joined : List (List ℕ) → List (List ℕ) → List (List ℕ)
+joined [] qs = qs
+joined (p ∷ []) [] = p ∷ []
+joined (p ∷ []) (q ∷ qs) = (p ++ q) ∷ qs
+joined (p ∷ r ∷ ps) qs = p ∷ joined (r ∷ ps) qs
+
+-- a list with a first element
+record IsPart (ps : List (List ℕ)) : Type 0 where
+  first : List ℕ
+  others : List (List ℕ)
+  is : ps ≡ first ∷ others
+
+parts : (text : List ℕ) → IsPart (slice_split is_newline text)
+parts [] = record { first = []; others = []; is = refl }
+parts (b ∷ bs) = go (is_newline b) (slice_split is_newline bs) (parts bs)
+  where
+    go : (v : Bool) (ps : List (List ℕ)) → IsPart ps → IsPart (cond v ([] ∷ ps) (onto_first b ps))
+    go true ps h = record { first = []; others = ps; is = refl }
+    go false ps h = record { first = b ∷ h.first; others = h.others; is = ap (onto_first b) h.is }
+
+joined_parts : (ps qs : List (List ℕ)) → IsPart qs → IsPart (joined ps qs)
+unfolding joined
+joined_parts [] qs h = h
+joined_parts (p ∷ []) [] h = record { first = p; others = []; is = refl }
+joined_parts (p ∷ []) (q ∷ qs) h = record { first = p ++ q; others = qs; is = refl }
+joined_parts (p ∷ r ∷ ps) qs h = record { first = p; others = joined (r ∷ ps) qs; is = refl }
+
+split_joined : (front rest : List ℕ) → slice_split is_newline (front ++ rest) ≡ joined (slice_split is_newline front) (slice_split is_newline rest)
+unfolding joined
+split_joined [] rest = let p = parts rest in rw p.is refl
+split_joined (b ∷ front) rest = ap (λ (ps : List (List ℕ)). cond (is_newline b) ([] ∷ ps) (onto_first b ps)) (split_joined front rest) ∙ go (is_newline b) (slice_split is_newline front) (slice_split is_newline rest) (parts front) (parts rest)
+  where
+    go : (v : Bool) (ps qs : List (List ℕ)) → IsPart ps → IsPart qs → cond v ([] ∷ joined ps qs) (onto_first b (joined ps qs)) ≡ joined (cond v ([] ∷ ps) (onto_first b ps)) qs
+    go v [] qs h k = let no : ⊥ = cc h.is in absurd no
+    go v (p ∷ ps) [] h k = let no : ⊥ = cc k.is in absurd no
+    go true (p ∷ []) (q ∷ qs) h k = refl
+    go false (p ∷ []) (q ∷ qs) h k = refl
+    go true (p ∷ r ∷ ps) (q ∷ qs) h k = refl
+    go false (p ∷ r ∷ ps) (q ∷ qs) h k = refl
+
+-- ---- bad lines
+strip_least : (l : List ℕ) → length l ≤ length (strip_carriage_return l) + 1
+strip_least l = go (slice_index l (length l - 1) == 13)
+  where
+    go : (b : Bool) → length l ≤ length (cond b (take (length l - 1) l) l) + 1
+    go true = let e = length-take-le (length l - 1) l (omega arith) in omega arith
+    go false = omega arith
+
+strip_most : (l : List ℕ) → length (strip_carriage_return l) ≤ length l
+strip_most l = go (slice_index l (length l - 1) == 13)
+  where
+    go : (b : Bool) → length (cond b (take (length l - 1) l) l) ≤ length l
+    go true = let e = length-take-le (length l - 1) l (omega arith) in omega arith
+    go false = omega arith
+
+-- what is too long stays too long, whatever follows
+stripped_grows : (p q : List ℕ) → length (strip_carriage_return p) ≤ length (strip_carriage_return (p ++ q))
+stripped_grows p [] = let e : length (strip_carriage_return p) ≡ length (strip_carriage_return (p ++ [])) = ap (λ (l : List ℕ). length (strip_carriage_return l)) (sym (append-nil p)) in omega arith
+stripped_grows p (b ∷ q) = omega (arith, strip_most p, strip_least (p ++ b ∷ q), length-append p (b ∷ q))
+
+grown : (p q : List ℕ) → is_overlong (strip_carriage_return p) ≡ true → (is_overlong (strip_carriage_return (p ++ q)) ≡ true) × (is_overlong (p ++ q) ≡ true)
+grown p q h = (longer (strip_carriage_return p) (strip_carriage_return (p ++ q)) h (stripped_grows p q), longer (strip_carriage_return p) (p ++ q) h (omega (arith, strip_most p, length-append p q)))
+  where
+    longer : (l m : List ℕ) → is_overlong l ≡ true → length l ≤ length m → is_overlong m ≡ true
+    longer l m h le = grind (arith, nat_tests)
+
+overlong_first : (n : ℕ) (row : List ℕ) (rows : List (List ℕ)) → is_overlong row ≡ true → first_bad n (row ∷ rows) ≡ Some n
+overlong_first n row rows h = rw h refl
+
+-- a part that is too long is a bad line, whatever follows it
+long_part : (n : ℕ) (p q : List ℕ) (qs : List (List ℕ)) → is_overlong (strip_carriage_return p) ≡ true → first_bad n (lines_of_parts ((p ++ q) ∷ qs)) ≡ Some n
+long_part n p q (next ∷ qs) h = overlong_first n (strip_carriage_return (p ++ q)) (lines_of_parts (next ∷ qs)) (grown p q h).0
+long_part n p q [] h =
+    let t : (length (p ++ q) == 0) ≡ false = some (p ++ q) (grown p q h).1 in
+    rw t (overlong_first n (p ++ q) [] (grown p q h).1)
+  where
+    some : (l : List ℕ) → is_overlong l ≡ true → (length l == 0) ≡ false
+    some l h = grind (arith, nat_tests)
+
+cut_bad : (n k : ℕ) (p q : List ℕ) (qs : List (List ℕ)) → first_bad n (cut_line p) ≡ Some k → first_bad n (lines_of_parts ((p ++ q) ∷ qs)) ≡ Some k
+cut_bad n k p q qs = go (is_overlong (strip_carriage_return p)) refl
+  where
+    go : (b : Bool) → is_overlong (strip_carriage_return p) ≡ b → first_bad n (cond b (strip_carriage_return p ∷ []) []) ≡ Some k → first_bad n (lines_of_parts ((p ++ q) ∷ qs)) ≡ Some k
+    go true long h = long_part n p q qs long ∙ sym (overlong_first n (strip_carriage_return p) [] long) ∙ h
+    go false short h = let no : ⊥ = cc h in absurd no
+
+-- a line before more parts
+line_and : (p : List ℕ) (ps : List (List ℕ)) → IsPart ps → lines_of_parts (p ∷ ps) ≡ strip_carriage_return p ∷ lines_of_parts ps
+line_and p [] h = let no : ⊥ = cc h.is in absurd no
+line_and p (r ∷ ps) h = refl
+
+-- after a line, what is told of the later ones
+later_bad : (o : Option Line) (n k : ℕ) (x y : Option ℕ) → (x ≡ Some k → y ≡ Some k) → first_bad_after n o x ≡ Some k → first_bad_after n o y ≡ Some k
+later_bad None n k x y later h = h
+later_bad (Some line) n k x y later h = later h
+
+-- a bad line among the parts of a front is one of the whole
+bad_on : (n k : ℕ) (ps qs : List (List ℕ)) → IsPart qs → first_bad n (lines_of_cut ps) ≡ Some k → first_bad n (lines_of_parts (joined ps qs)) ≡ Some k
+unfolding joined
+bad_on n k [] qs some h = let no : ⊥ = cc h in absurd no
+bad_on n k (p ∷ []) [] some h = let no : ⊥ = cc some.is in absurd no
+bad_on n k (p ∷ []) (q ∷ qs) some h = cut_bad n k p q qs h
+bad_on n k (p ∷ r ∷ ps) qs some h =
+    ap (first_bad n) (line_and p (joined (r ∷ ps) qs) (joined_parts (r ∷ ps) qs some))
+    ∙ later_bad (line_of (strip_carriage_return p)) n k (first_bad (n + 1) (lines_of_cut (r ∷ ps))) (first_bad (n + 1) (lines_of_parts (joined (r ∷ ps) qs))) (bad_on (n + 1) k (r ∷ ps) qs some) h
+
+-- a bad line within the limit is the first bad line of the whole
+pub bad_line_stays : BadLineStays
+bad_line_stays limit bytes n = go (nat_le (length bytes) limit)
+  where
+    go : (b : Bool) → first_bad 1 (cond b (lines bytes) (lines_of_cut (slice_split is_newline (take limit bytes)))) ≡ Some n → first_bad 1 (lines bytes) ≡ Some n
+    go true h = h
+    go false h =
+        ap (λ (text : List ℕ). first_bad 1 (lines text)) (sym (take-append-drop limit bytes))
+        ∙ ap (λ (ps : List (List ℕ)). first_bad 1 (lines_of_parts ps)) (split_joined (take limit bytes) (drop limit bytes))
+        ∙ bad_on 1 n (slice_split is_newline (take limit bytes)) (slice_split is_newline (drop limit bytes)) (parts (drop limit bytes)) h

@@ -1,0 +1,6 @@
+mod Made
+mod Last
+mod Counted
+mod Cut
+mod Printed
+mod Rows

@@ -1,0 +1,149 @@
+-- What lines make is a map: each line keeps it one.
+use Rattle.std.proofs.Common.{◌≡◌, ℕ, suc, ◌≤◌, ◌==◌, Bool, true, false, nat_le, cond, List, [], ◌∷◌, length, refl, sym, ◌∙◌, subst, inl, inr, Option, Some, None, Result, Ok, Err, Ordering, Less, Equal, Greater, arith}
+use Rattle.std.specs.Prelude.{codes}
+use Rattle.std.specs.List.{AllByRecursion}
+use Rattle.std.specs.Ordering.{eq_by_cmp}
+use Rattle.std.specs.Result.{result_ok}
+use Rattle.std.specs.Str.{bytes_eq}
+use Rattle.std.specs.FinMap.{get, insert, remove, empty, entries, entries-insert, get-remove, get-empty}
+use Rattle.std.specs.FinMap.Entries.{put, by_order}
+use Rattle.std.proofs.lemmas.Cmp.{nat_list_cmp_total}
+use Rattle.std.proofs.lemmas.Bool.Decides.{nat_tests}
+use Rattle.hex.specs.Hex.{decode_of, IsBytes}
+use Rattle.hex.specs.declared.error.FromHexError.{FromHexError}
+use Rattle.hex.proofs.HexLemmas.{decode_of-ok}
+use Rattle.base_model.specs.Bytes.{AreBytes, bytes_cmp}
+use Rattle.base_model.specs.Member.{Member}
+use Rattle.trie_model.specs.Maps.{Map, IsPair, IsMap, key_limit, value_limit}
+use Rattle.trie_model.proofs.Lists.{All-member}
+use Rattle.trie_model.proofs.Entries.{member_of_get, get_of_member}
+use Rattle.text_model.specs.Lines.{is_overlong}
+use Rattle.text_model.specs.Words.{words_of, hex_word, at_most, key_word, value_word}
+use Rattle.text_model.specs.PutLines.{Line, Skip, Put, Del, line_of, line_of_words, put_of, del_of, is_comment, after_line, after_lines}
+use Rattle.text_model.specs.Laws.{LinesMakeMaps}
+
+-- ---- maps by what they answer
+-- what holds of each member holds of each
+All-of-members : (P : List ℕ × List ℕ → Type 0) (es : List (List ℕ × List ℕ)) → ((e : List ℕ × List ℕ) → Member es e → P e) → AllByRecursion P es
+All-of-members P [] h = tt
+All-of-members P (e ∷ es) h = (h e (inl refl), All-of-members P es (λ f m. h f (inr m)))
+
+-- what a map answers is a pair within the limits
+abbrev Answers : Map → Type 0
+Answers m = (k v : List ℕ) → get m k ≡ Some v → IsPair (k, v)
+
+answers : (m : Map) → IsMap m → Answers m
+answers m h k v g = All-member IsPair (entries m) (k, v) h (member_of_get m k v g)
+
+by_answers : (m : Map) → Answers m → IsMap m
+by_answers m h = All-of-members IsPair (entries m) (λ e i. h e.0 e.1 (get_of_member m e.0 e.1 i))
+
+-- ---- maps after a line
+empty_map : IsMap empty
+empty_map = by_answers empty (λ k v g. let no : ⊥ = cc (g, get-empty {X = List ℕ} bytes_cmp k) in absurd no)
+
+-- a map with a pair put into it
+put_pair : (es : List (List ℕ × List ℕ)) (k v : List ℕ) → IsPair (k, v) → AllByRecursion IsPair es → AllByRecursion IsPair (put bytes_cmp k v es)
+put_pair [] k v p h = (p, tt)
+put_pair (e ∷ es) k v p h = go (bytes_cmp k e.0) (put_pair es k v p h.1)
+  where
+    go : (o : Ordering) → AllByRecursion IsPair (put bytes_cmp k v es) → AllByRecursion IsPair (by_order o ((k, v) ∷ e ∷ es) ((e.0, v) ∷ es) (e ∷ put bytes_cmp k v es))
+    go Less rest = (p, h)
+    go Equal rest = (record { key_bytes = h.0.key_bytes; value_bytes = p.value_bytes; key_short = h.0.key_short; value_short = p.value_short }, h.1)
+    go Greater rest = (h.0, rest)
+
+inserted_map : (m : Map) (k v : List ℕ) → IsPair (k, v) → IsMap m → IsMap (insert m k v)
+inserted_map m k v p h = subst (AllByRecursion IsPair) (sym (entries-insert nat_list_cmp_total m k v)) (put_pair (entries m) k v p h)
+
+kept : (b : Bool) (o : Option (List ℕ)) (v : List ℕ) → cond b None o ≡ Some v → o ≡ Some v
+kept true o v g = absurd (cc g)
+kept false o v g = g
+
+removed_map : (m : Map) (k : List ℕ) → IsMap m → IsMap (remove m k)
+removed_map m k h = by_answers (remove m k) (λ q v g. answers m h q v (kept (eq_by_cmp bytes_cmp q k) (get m q) v (sym (get-remove nat_list_cmp_total m k q) ∙ g)))
+
+-- ---- what words stand for
+each_byte : (bytes : List ℕ) → IsBytes bytes → AreBytes bytes
+each_byte [] h = tt
+each_byte (b ∷ bytes) h = (h 0, each_byte bytes (λ i. h (suc i)))
+
+-- what an option has
+abbrev Has : (List ℕ → Type 0) → Option (List ℕ) → Type 0
+Has P None = Unit {0}
+Has P (Some x) = P x
+
+decoded_bytes : (word : List ℕ) (r : Result (List ℕ) FromHexError) → decode_of word ≡ r → Has AreBytes (result_ok r)
+decoded_bytes word (Ok bytes) h = each_byte bytes (decode_of-ok word bytes h).3
+decoded_bytes word (Err e) h = tt
+
+by_tests : (P : List ℕ → Type 0) (a b : Bool) (o : Option (List ℕ)) → P [] → Has P o → Has P (cond a (Some []) (cond b None o))
+by_tests P true b o none h = none
+by_tests P false true o none h = tt
+by_tests P false false o none h = h
+
+hex_word_bytes : (word : List ℕ) → Has AreBytes (hex_word word)
+hex_word_bytes word = by_tests AreBytes (bytes_eq word (codes "-")) (length word == 0) (result_ok (decode_of word)) tt (decoded_bytes word (decode_of word) refl)
+
+-- bytes, no more than a limit
+abbrev AreBytesWithin : ℕ → List ℕ → Type 0
+AreBytesWithin limit bytes = AreBytes bytes × (length bytes ≤ limit)
+
+within : (limit : ℕ) (o : Option (List ℕ)) → Has AreBytes o → Has (AreBytesWithin limit) (at_most limit o)
+within limit None h = tt
+within limit (Some bytes) h = go (nat_le (length bytes) limit) refl
+  where
+    go : (b : Bool) → nat_le (length bytes) limit ≡ b → Has (AreBytesWithin limit) (cond b (Some bytes) None)
+    go true e = (h, let le : length bytes ≤ limit = grind (arith, nat_tests) in le)
+    go false e = tt
+
+-- ---- what lines do
+-- what a line puts is a pair within the limits
+abbrev PutsPair : Option Line → Type 0
+PutsPair None = Unit {0}
+PutsPair (Some Skip) = Unit {0}
+PutsPair (Some (Put key value)) = IsPair (key, value)
+PutsPair (Some (Del key)) = Unit {0}
+
+put_puts : (key value : Option (List ℕ)) → Has (AreBytesWithin key_limit) key → Has (AreBytesWithin value_limit) value → PutsPair (put_of key value)
+put_puts None value k v = tt
+put_puts (Some key) None k v = tt
+put_puts (Some key) (Some value) k v = record { key_bytes = k.0; value_bytes = v.0; key_short = k.1; value_short = v.1 }
+
+del_puts : (key : Option (List ℕ)) → PutsPair (del_of key)
+del_puts None = tt
+del_puts (Some key) = tt
+
+where_named : (named : Bool) (o : Option Line) → PutsPair o → PutsPair (cond named o None)
+where_named true o h = h
+where_named false o h = tt
+
+words_put : (words : List (List ℕ)) → PutsPair (line_of_words words)
+words_put [] = tt
+words_put (command ∷ []) = tt
+words_put (command ∷ key ∷ []) = where_named (bytes_eq command (codes "del")) (del_of (key_word key)) (del_puts (key_word key))
+words_put (command ∷ key ∷ value ∷ []) =
+    where_named (bytes_eq command (codes "put")) (put_of (key_word key) (value_word value))
+    (put_puts (key_word key) (value_word value) (within key_limit (hex_word key) (hex_word_bytes key)) (within value_limit (hex_word value) (hex_word_bytes value)))
+words_put (command ∷ key ∷ value ∷ word ∷ words) = tt
+
+line_puts : (line : List ℕ) → PutsPair (line_of line)
+line_puts line = go (is_overlong line) (is_comment line)
+  where
+    go : (a b : Bool) → PutsPair (cond a None (cond b (Some Skip) (line_of_words (words_of line))))
+    go true b = tt
+    go false true = tt
+    go false false = words_put (words_of line)
+
+line_map : (m : Map) (o : Option Line) → PutsPair o → IsMap m → IsMap (after_line m o)
+line_map m None p h = h
+line_map m (Some Skip) p h = h
+line_map m (Some (Put key value)) p h = inserted_map m key value p h
+line_map m (Some (Del key)) p h = removed_map m key h
+
+lines_map : (m : Map) (rows : List (List ℕ)) → IsMap m → IsMap (after_lines m rows)
+lines_map m [] h = h
+lines_map m (row ∷ rows) h = lines_map (after_line m (line_of row)) rows (line_map m (line_of row) (line_puts row) h)
+
+-- what lines make is a map within the limits
+pub lines_make_maps : LinesMakeMaps
+lines_make_maps rows = lines_map empty rows empty_map

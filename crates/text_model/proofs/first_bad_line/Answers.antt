@@ -1,0 +1,5 @@
+use Rattle.text_model.proofs.Counted.{first_bad_line}
+use Rattle.text_model.proofs.first_bad_line.Goals as goal
+
+pub returns : goal.returns
+returns c = first_bad_line

@@ -1,0 +1,5 @@
+use Rattle.text_model.proofs.Last.{last_line_counts}
+use Rattle.text_model.proofs.last_line_counts.Goals as goal
+
+pub returns : goal.returns
+returns c = last_line_counts
