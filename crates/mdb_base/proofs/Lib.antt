@@ -1,0 +1,3 @@
+pub mod ReadStep
+pub mod Groups
+pub mod ReadNumber

@@ -1,0 +1,19 @@
+//! Numbers as bytes, and the traits by which bytes come in and go out, with stand-ins in memory.
+//!
+//! It stands on `base_model` alone. `Failed` is the answer of a source or a sink whose count of
+//! faults rose, `VarintFault` says why a number is not read, and `NoMemory` is the answer of a call
+//! that found no memory and left its arguments as they were. What a source reads or a sink writes in the real world, no clause can say.
+#![tactic(auto)]
+
+mod faults;
+mod memory;
+mod outside;
+mod uvarint;
+
+pub use faults::{LimitKind, NoMemory};
+pub use memory::{MemSink, MemSource};
+pub use outside::{Failed, Sink, Source};
+pub use uvarint::{VarintFault, read_uvarint, write_uvarint};
+
+#[cfg(test)]
+mod tests;
