@@ -1,0 +1,9 @@
+pub mod Cuts
+pub mod KeyFacts
+pub mod Order
+pub mod Padding
+pub mod Parts
+pub mod Shared
+pub mod Slots
+pub mod Tokens
+pub mod Windows
