@@ -1,0 +1,4 @@
+pub mod Pieces
+pub mod Rests
+pub mod Children
+pub mod Whole
