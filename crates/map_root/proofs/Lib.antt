@@ -1,0 +1,13 @@
+mod Keys
+mod Hashed
+mod Runs
+mod Walk
+mod Pairs
+mod Tokens
+mod Held
+mod Ways
+mod Opened
+mod Laid
+mod Passed
+mod Counts
+mod Ascending
