@@ -1,0 +1,10 @@
+pub mod WordLemmas
+pub mod Scan
+pub mod TextLines
+pub mod Overlong
+pub mod Pulled
+pub mod Wrote
+pub mod DigestLemmas
+pub mod MapLemmas
+pub mod LineByLine
+pub mod RootOutcome

@@ -1,0 +1,9 @@
+use Rattle.std.proofs.Common.{◌≡◌, ◌++◌, map}
+use Rattle.mdb_tool.proofs.DigestLemmas.{plain}
+use Rattle.mdb_tool.proofs.digests.Digests.root.Given as goal
+
+abbrev pub invariant-loop-key : goal.invariant-loop-key
+invariant-loop-key l = record {
+  branch : l.builder.branch ≡ l.fn.branch;
+  pairs : l.builder.pairs ++ map plain l.key-iterator ≡ l.fn.self;
+}

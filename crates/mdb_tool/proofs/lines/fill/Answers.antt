@@ -1,0 +1,33 @@
+use Rattle.std.proofs.Common.{◌≡◌, length, take, arith, sym, subst, ℕ, ◌∙◌, ap, Ok}
+use Rattle.std.proofs.lemmas.List.{take_all}
+use Rattle.mdb_tool.specs.Stream.{NoNewline}
+use Rattle.mdb_tool.proofs.Scan.{none_held}
+use Rattle.mdb_tool.proofs.Pulled.{pulls_on}
+use Rattle.mdb_tool.proofs.lines.fill.Goals as goal
+
+pub returns-in_err-pull-clause-bytes : goal.returns-in_err-pull-clause-bytes
+returns-in_err-pull-clause-bytes g c =
+    let k = c.pulls.invariant in
+    pulls_on c.args.held.now c.pulls.held c.pull.new.self (g.S.Source.left c.args.input.now) (g.S.Source.left c.pulls.input) (g.S.Source.left c.pull.new.input) k.tells k.bytes c.pull.ensures.bytes
+
+pub returns-then-branch-eq0-clause-found : goal.returns-then-branch-eq0-clause-found
+returns-then-branch-eq0-clause-found g c =
+    let none : NoNewline c.pulls.held = none_held c.pulls.held c.bytes-bytes.result.now c.min.result c.bytes-bytes.ensures.value (omega arith) c.in_default.ensures in
+    let size : length c.pull.new.self ≡ length c.pulls.held = omega (arith, c.in_ok-pull.ensures.count, c.if-branch-eq0.true) in
+    let same : c.pull.new.self ≡ c.pulls.held = sym (take_all (length c.pulls.held) c.pull.new.self (omega arith)) ∙ c.in_ok-pull.ensures.front in
+    (subst NoNewline (sym same) none, c.in_ok-pull.ensures.end (ap (λ (n : ℕ). Ok n) c.if-branch-eq0.true), omega (arith, ap length c.bytes-bytes.ensures.value, c.if-allowed-bytes.false))
+
+pub pulls-preserved : goal.pulls-preserved
+pulls-preserved g c =
+    let k = c.pulls.invariant in
+    let none : NoNewline c.pulls.held = none_held c.pulls.held c.bytes-bytes.result.now c.min.result c.bytes-bytes.ensures.value (omega arith) c.in_default.ensures in
+    let size : length c.bytes-bytes.result.now ≡ length c.pulls.held = ap length c.bytes-bytes.ensures.value in
+    let front : take (length c.bytes-bytes.result.now) c.pull.new.self ≡ c.pulls.held = rw size c.in_ok-pull.ensures.front in
+    record {
+      passed = omega (arith, c.in_ok-pull.ensures.count);
+      usable = omega (arith, c.if-allowed-bytes.false);
+      none = subst NoNewline (sym front) none;
+      bytes = pulls_on c.args.held.now c.pulls.held c.pull.new.self (g.S.Source.left c.args.input.now) (g.S.Source.left c.pulls.input) (g.S.Source.left c.pull.new.input) k.tells k.bytes c.pull.ensures.bytes;
+      tells = (λ x. k.tells.0 (c.pull.ensures.tells.0 x), λ x. c.pull.ensures.tells.1 (k.tells.1 x));
+      later = omega (arith, c.pull.ensures.later);
+    }

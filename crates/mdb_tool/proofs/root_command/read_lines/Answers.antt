@@ -1,0 +1,56 @@
+use Rattle.std.proofs.Common.{◌≡◌, ap, refl, subst, arith, Ok, Bool, None}
+use Rattle.text_model.specs.PutLines.{line_of}
+use Rattle.mdb_tool.specs.Reading.{FirstBad}
+use Rattle.mdb_tool.proofs.LineByLine.{at_start, goes_on, at_end, past_end, at_overlong, at_bad}
+use Rattle.mdb_tool.proofs.root_command.read_lines.Goals as goal
+
+pub lines-init : goal.lines-init
+lines-init g c = record {
+  so_far = at_start (g.S.Source.left c.args.input.now) c.args.digests.now c.new-reader.result c.requires c.new-reader.ensures.held c.new-reader.ensures.allowed;
+  room = omega arith;
+  tells = (λ x. x, λ x. x);
+  later = omega arith;
+}
+
+pub returns-in-Ok-false-clause-ok : goal.returns-in-Ok-false-clause-ok
+returns-in-Ok-false-clause-ok g c =
+    let k = c.lines.invariant in
+    let end = c.in-Ok-false.ensures.end (ap (λ (b : Bool). Ok b) c.in-Ok-false.field-0-test) in
+    (at_end (g.S.Source.left c.args.input.now) (g.S.Source.left c.lines.input) c.lines.number c.lines.digests c.lines.reader k.tells k.so_far end.0, end.1)
+
+pub returns-in-Err-Limit-clause-limit : goal.returns-in-Err-Limit-clause-limit
+returns-in-Err-Limit-clause-limit g c = λ _.
+    let k = c.lines.invariant in
+    let ensured = rw c.in-Err-Limit.field-0-is at c.in-Err-Limit.ensures in
+    past_end (g.S.Source.left c.args.input.now) (g.S.Source.left c.lines.input) c.lines.number c.lines.digests c.lines.reader k.tells k.so_far (ensured.limit refl)
+
+pub returns-in-Err-Overlong-clause-line : goal.returns-in-Err-Overlong-clause-line
+returns-in-Err-Overlong-clause-line g c = λ n is.
+    let k = c.lines.invariant in
+    let ensured = rw c.in-Err-Overlong.field-0-is at c.in-Err-Overlong.ensures in
+    let number : c.lines.number ≡ n = cc is in
+    subst (FirstBad (g.S.Source.left c.args.input.now)) number
+    (at_overlong (g.S.Source.left c.args.input.now) (g.S.Source.left c.lines.input) c.lines.number c.lines.digests c.lines.reader k.tells k.so_far (ensured.overlong refl))
+
+pub returns-in-Ok-false-apply_line-clause-line : goal.returns-in-Ok-false-apply_line-clause-line
+returns-in-Ok-false-apply_line-clause-line g c = λ n is.
+    let k = c.lines.invariant in
+    let gives = c.in-Ok-true.ensures.line (ap (λ (b : Bool). Ok b) c.in-Ok-true.field-0-test) in
+    let bad : line_of c.advance.new.self.line ≡ None = rw (← c.line.ensures) (c.in-Ok-false-apply_line.ensures.bad (ap (λ (b : Bool). Ok b) c.in-Ok-false-apply_line.field-0-test)) in
+    let number : c.lines.number ≡ n = cc is in
+    subst (FirstBad (g.S.Source.left c.args.input.now)) number
+    (at_bad (g.S.Source.left c.args.input.now) (g.S.Source.left c.lines.input) (g.S.Source.left c.advance.new.input) c.lines.number c.lines.digests c.lines.reader c.advance.new.self k.tells c.advance.ensures.tells k.so_far gives bad)
+
+pub lines-preserved : goal.lines-preserved
+lines-preserved g c =
+    let k = c.lines.invariant in
+    let given = ap (λ (b : Bool). Ok b) c.in-Ok-true.field-0-test in
+    let gives = c.in-Ok-true.ensures.line given in
+    let shorter = c.in-Ok-true.ensures.shorter given in
+    let lays = rw c.line.ensures at (c.in-Ok-true-apply_line.ensures.good (ap (λ (b : Bool). Ok b) c.in-Ok-true-apply_line.field-0-test)) in
+    record {
+      so_far = goes_on (g.S.Source.left c.args.input.now) (g.S.Source.left c.lines.input) (g.S.Source.left c.advance.new.input) c.lines.number c.lines.digests c.apply_line.new.digests c.lines.reader c.advance.new.self k.tells k.so_far gives lays;
+      room = omega (arith, k.room, shorter);
+      tells = (λ x. k.tells.0 (c.advance.ensures.tells.0 x), λ x. c.advance.ensures.tells.1 (k.tells.1 x));
+      later = omega (arith, c.advance.ensures.later);
+    }

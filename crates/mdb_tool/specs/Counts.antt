@@ -1,0 +1,12 @@
+-- How a stream of std counts its failures.
+use Rattle.std.specs.Prelude.{ℕ, ◌≡◌, ◌==◌, ◌&&◌, if◌then◌else◌, nat_lt, List, length, Option, None, Result, MatchResult}
+use Rattle.mdb_base.specs.InMemory.{one_more}
+
+-- what a stream of std tells of its bytes
+abbrev pub untold : Option (List ℕ)
+untold = None
+
+-- a write raises the count by one at an error, and where it takes nothing of a piece that is not empty
+abbrev pub CountsWrites : {E : Type 0} → ℕ → ℕ → Result ℕ E → List ℕ → Type 0
+CountsWrites before now result piece =
+    MatchResult result (λ n. now ≡ (if (n == 0) && nat_lt 0 (length piece) then one_more before else before)) (λ _. now ≡ one_more before)

@@ -1,0 +1,61 @@
+-- A text as lines, as its reader gives them: the bytes that the reader holds, and those that its source has left.
+use Rattle.std.specs.Prelude.{ℕ, ◌+◌, ◌<◌, ◌≤◌, ◌≡◌, false, true, nat_le, List, [], ◌∷◌, ◌++◌, length, take, slice_index, Option, Some, None, IfSome, All}
+use Rattle.base_model.specs.Streams.{AtEnd}
+use Rattle.text_model.specs.Lines.{is_newline, is_overlong, line_limit, lines_within}
+
+-- no newline stands among the bytes
+abbrev pub NoNewline : List ℕ → Type 0
+NoNewline bytes = All (λ b. is_newline b ≡ false) bytes
+
+-- a reader of lines. The text ahead of it is what it holds and then what its source has left
+pub record Stream : Type 0 where
+  pub held : List ℕ  -- the bytes that were read and stand in no line so far
+  pub allowed : ℕ  -- how many bytes from here on may be used
+  pub line : List ℕ  -- the line that was given last
+
+-- the bytes ahead, after a step, are those from before
+abbrev pub Pulls : List ℕ → Option (List ℕ) → List ℕ → Option (List ℕ) → Type 0
+Pulls held None held' left' = Unit {0}
+Pulls held (Some left) held' None = Unit {0}
+Pulls held (Some left) held' (Some left') = held' ++ left' ≡ held ++ left
+
+-- the lines ahead are the line that is given and then the lines ahead of the new reader, whose text is within its limit where the old one's is
+abbrev pub Gives : Stream → Option (List ℕ) → Stream → Option (List ℕ) → Type 0
+Gives old None new left' = Unit {0}
+Gives old (Some left) new None = Unit {0}
+Gives old (Some left) new (Some left') =
+    (lines_within old.allowed (old.held ++ left) ≡ new.line ∷ lines_within new.allowed (new.held ++ left'))
+    × (nat_le (length (new.held ++ left')) new.allowed ≡ nat_le (length (old.held ++ left)) old.allowed)
+
+-- no line is left, and the text is within its limit
+abbrev pub NoMore : Stream → Option (List ℕ) → Type 0
+NoMore old left = IfSome left (λ bytes. (lines_within old.allowed (old.held ++ bytes) ≡ []) × (length (old.held ++ bytes) ≤ old.allowed))
+
+-- no line is left, and the text is past its limit
+abbrev pub Past : Stream → Option (List ℕ) → Type 0
+Past old left = IfSome left (λ bytes. (lines_within old.allowed (old.held ++ bytes) ≡ []) × (old.allowed < length (old.held ++ bytes)))
+
+-- there is a first line, and it is too long
+abbrev pub FirstIsOverlong : List (List ℕ) → Type 0
+FirstIsOverlong [] = ⊥
+FirstIsOverlong (line ∷ lines) = is_overlong line ≡ true
+
+-- the lines ahead begin with one that is too long
+abbrev pub BeginsOverlong : Stream → Option (List ℕ) → Type 0
+BeginsOverlong old left = IfSome left (λ bytes. FirstIsOverlong (lines_within old.allowed (old.held ++ bytes)))
+
+-- the line at the front of what is held ends at a newline at this place, within so many bytes
+abbrev pub EndsAt : ℕ → List ℕ → ℕ → Type 0
+EndsAt allowed held at = (at < allowed) × (at < length held) × NoNewline (take at held) × (slice_index held at ≡ 10)
+
+-- the line at the front of what is held is all that is left
+abbrev pub IsLast : ℕ → List ℕ → Option (List ℕ) → Type 0
+IsLast allowed held left = NoNewline held × AtEnd left × (length held ≤ allowed)
+
+-- no line ends among the bytes that may be used
+abbrev pub NoEnd : ℕ → List ℕ → Type 0
+NoEnd allowed held = NoNewline (take allowed held)
+
+-- the most bytes that a reader holds: a line as long as lines may be, a carriage return, and what one read gives
+abbrev pub held_limit : ℕ
+held_limit = line_limit + 1 + 65536

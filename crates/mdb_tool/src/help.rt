@@ -1,0 +1,25 @@
+// The texts of `--help` and `--version`.
+
+/// What `mdb --help` prints.
+pub(crate) const HELP: &str = "mdb: an authenticated map, which one root of 32 bytes vouches for
+
+usage: mdb FOLDER COMMAND WORDS..
+       mdb --help
+       mdb --version
+
+FOLDER is a folder, or - where the command uses none.
+
+commands:
+  root FACTOR    reads lines from standard input and prints the root of the map that they make
+                 FACTOR is 2, 4, 16 or 256, the most children that a node of the trie may have
+                 lines: put KEY VALUE    del KEY    # a comment
+                 KEY and VALUE are hexadecimal digits, or - for no bytes
+
+example:
+  echo 'put 6b 76' | mdb - root 16
+
+The status is 0 where the work is finished. Otherwise a line on standard error tells why it is not.
+";
+
+/// What `mdb --version` prints.
+pub(crate) const VERSION: &str = "mdb 0.1.0\n";

@@ -1,0 +1,177 @@
+// The lines of a source, one after another, up to so many bytes.
+ghost use Rattle.std.specs.Prelude.{◌≡◌, ◌<◌, ◌≤◌, ◌+◌, [], take, length, IfOk, Ok, IsErrOf, MatchOption, true, false};
+ghost use Rattle.std.specs.Str.Lines.{strip_carriage_return};
+ghost use Rattle.base_model.specs.Faults.{Rose, TellsAlike};
+ghost use Rattle.base_model.specs.Streams.{AtEnd};
+ghost use Rattle.text_model.specs.Lines.{is_overlong};
+ghost use Rattle.mdb_tool.specs.Stream.{Stream, NoNewline, Pulls, Gives, NoMore, Past, BeginsOverlong, EndsAt, IsLast, NoEnd, held_limit};
+
+mod held;
+
+use held::Held;
+use mdb_base::Source;
+use memchr::memchr;
+use std::alloc::Global;
+use std::marker::Model;
+
+/// The most bytes that a line may have, without its end.
+pub(crate) const LINE_LIMIT: usize = 20_000_000;
+
+/// Why no line is given.
+#[derive(Clone, Copy, Debug, PartialEq, Eq)]
+pub(crate) enum LineFault {
+    /// The source failed.
+    Read,
+    /// The input goes past its limit, and no line is left within it.
+    Limit,
+    /// The next line is too long.
+    Overlong,
+    /// There was no memory.
+    Memory,
+}
+
+/// Gives the lines of a source one after another.
+///
+/// The line that was given last is the front of the bytes that are held, until the next one is asked for.
+#[derive(Drop)]
+pub(crate) struct LineReader {
+    held: Held,
+    // How many bytes of what is held are the line, and how many it takes with its end.
+    line: usize,
+    used: usize,
+    allowed: usize,
+}
+
+impl Model for LineReader {
+    ghost use Rattle.std.specs.Prelude.{◌≤◌, take, drop, length};
+    ghost use Rattle.mdb_tool.specs.Stream.{Stream};
+
+    ghost Value = { Stream };
+
+    ghost view = { λ r. record { held = drop r.used r.held; allowed = r.allowed; line = take r.line r.held } };
+
+    ghost invariant = { λ r. (r.used ≤ length r.held) × (r.line ≤ length r.held) };
+}
+
+impl LineReader {
+    /// A reader of a text of which at most `limit` bytes are used.
+    pub(crate) fn new(alloc: Global, limit: usize) -> Self
+        ensures held { result.held ≡ [] }
+        ensures allowed { result.allowed ≡ limit }
+        ensures line { result.line ≡ [] }
+    {
+        LineReader {
+            held: Held::new(alloc),
+            line: 0,
+            used: 0,
+            allowed: limit,
+        }
+    }
+
+    /// The line that was given last, without its end.
+    pub(crate) fn line(&self) -> &[u8]
+        ensures { result.now ≡ self.now.line }
+    {
+        &self.held.bytes()[..self.line]
+    }
+
+    /// Goes on to the next line, and says whether there is one.
+    ///
+    /// A line without an end that is too long is a fault as soon as that is certain. One that has its
+    /// end is given, however long it is.
+    pub(crate) fn advance<S: Source>(&mut self, input: &mut S) -> Result<bool, LineFault>
+        ensures line { result ≡ Ok true → Gives self.old (S.left input.old) self.new (S.left input.new) }
+        ensures kept { (result ≡ Ok true → ⊥) → Pulls self.old.held (S.left input.old) self.new.held (S.left input.new) × (self.new.allowed ≡ self.old.allowed) }
+        ensures bounded { length self.new.held ≤ held_limit }
+        ensures shorter { result ≡ Ok true → self.new.allowed < self.old.allowed }
+        ensures end { result ≡ Ok false → NoMore self.old (S.left input.old) × AtEnd (S.left input.new) }
+        ensures limit { IsErrOf result LineFault.Limit → Past self.old (S.left input.old) }
+        ensures overlong { IsErrOf result LineFault.Overlong → BeginsOverlong self.old (S.left input.old) }
+        ensures tells { TellsAlike (S.left input.old) (S.left input.new) }
+        ensures later { S.faults input.old ≤ S.faults input.new }
+        ensures read { IsErrOf result LineFault.Read → Rose (S.faults input.old) (S.faults input.new) }
+    {
+        self.held.skip(self.used);
+        self.used = 0;
+        self.line = 0;
+        match fill(&mut self.held, self.allowed, input)? {
+            Some(at) => {
+                self.line = text_len(&self.held.bytes()[..at]);
+                self.used = at + 1;
+                self.allowed -= at + 1;
+                Ok(true)
+            }
+            None => {
+                let rest = self.held.bytes().len();
+                if rest == 0 {
+                    return Ok(false);
+                }
+                self.line = rest;
+                self.used = rest;
+                self.allowed -= rest;
+                Ok(true)
+            }
+        }
+    }
+}
+
+// Takes bytes until the end of the line at the front is held: the place of its newline, or none where
+// the text ends.
+fn fill<S: Source>(
+    held: &mut Held,
+    allowed: usize,
+    input: &mut S,
+) -> Result<Option<usize>, LineFault>
+    ensures bytes { Pulls held.old (S.left input.old) held.new (S.left input.new) }
+    ensures bounded { length held.new ≤ held_limit }
+    ensures found { IfOk result (λ end. MatchOption end (IsLast allowed held.new (S.left input.new)) (EndsAt allowed held.new)) }
+    ensures limit { IsErrOf result LineFault.Limit → NoEnd allowed held.new × (is_overlong (strip_carriage_return (take allowed held.new)) ≡ false) × (allowed < length held.new) }
+    ensures overlong { IsErrOf result LineFault.Overlong → NoEnd allowed held.new × (is_overlong (strip_carriage_return (take allowed held.new)) ≡ true) }
+    ensures tells { TellsAlike (S.left input.old) (S.left input.new) }
+    ensures later { S.faults input.old ≤ S.faults input.new }
+    ensures read { IsErrOf result LineFault.Read → Rose (S.faults input.old) (S.faults input.new) }
+{
+    let mut scanned = 0usize;
+    'pulls: loop {
+        let bytes = held.bytes();
+        let usable = &bytes[..bytes.len().min(allowed)];
+        if let Some(at) = newline_from(usable, scanned) {
+            return Ok(Some(at));
+        }
+        if text_len(usable) > LINE_LIMIT {
+            return Err(LineFault::Overlong);
+        }
+        if allowed < bytes.len() {
+            return Err(LineFault::Limit);
+        }
+        scanned = bytes.len();
+        if held.pull(input)? == 0 {
+            return Ok(None);
+        }
+    }
+}
+
+// The place of the first newline, where none stands among the bytes that were scanned before.
+fn newline_from(bytes: &[u8], scanned: usize) -> Option<usize>
+    requires within { scanned ≤ length bytes.now }
+    requires before { NoNewline (take scanned bytes.now) }
+    ensures { MatchOption result (NoNewline bytes.now) (EndsAt (length bytes.now) bytes.now) }
+{
+    let at = memchr(b'\n', &bytes[scanned..])?;
+    Some(scanned + at)
+}
+
+// How many bytes of a line's bytes are its text: a carriage return at its end is none of it.
+fn text_len(line: &[u8]) -> usize
+    ensures within { result ≤ length line.now }
+    ensures most { length line.now ≤ result + 1 }
+    ensures text { take result line.now ≡ strip_carriage_return line.now }
+{
+    match line {
+        [text @ .., 13] => text.len(),
+        _ => line.len(),
+    }
+}
+
+#[cfg(test)]
+mod tests;
