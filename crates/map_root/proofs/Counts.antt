@@ -9,7 +9,7 @@ use Rattle.trie_model.specs.Table.{items_table}
 use Rattle.trie_model.proofs.Sound.{no_stub_at}
 use Rattle.trie_model.proofs.Tables.{Plain, Plain-below, table-unfold, rows_below, no_table}
 use Rattle.trie_model.proofs.Unfold.{below_shrinks}
-use Rattle.map_root.proofs.Hashed.{strings_unfold, strings_none}
+use Rattle.trie_model.proofs.Strings.{strings_unfold, strings_none}
 
 -- lists of lists that are equally long one by one are so end to end
 flat_count : {A B : Type 0} (f : ℕ → List A) (g : ℕ → List B) (ts : List ℕ) → ((t : ℕ) → length (f t) ≡ length (g t)) → length (flat_map f ts) ≡ length (flat_map g ts)

@@ -1,5 +1,4 @@
 mod Keys
-mod Hashed
 mod Runs
 mod Walk
 mod Pairs
@@ -10,4 +9,3 @@ mod Opened
 mod Laid
 mod Passed
 mod Counts
-mod Ascending

@@ -16,7 +16,7 @@ use Rattle.std.proofs.Common.{add-one}
 use Rattle.std.proofs.Math.Nat.{mul-suc}
 use Rattle.trie_model.specs.Strings.{strings, strings_below}
 use Rattle.map_root.proofs.Keys.{no_stubs}
-use Rattle.map_root.proofs.Hashed.{strings_group}
+use Rattle.trie_model.proofs.Strings.{strings_group}
 
 -- each element of the prefix passes
 pub prefix_all : {A : Type 0} (p : A → Bool) (xs : List A) → AllByRecursion (λ x. p x ≡ true) (take (prefix_len p xs) xs)

@@ -20,7 +20,7 @@ use Rattle.std.specs.Prelude.{replicate}
 use Rattle.trie_model.specs.Strings.{strings, strings_below}
 use Rattle.map_root.proofs.Keys.{Node, place_of_node, head_is, rest_placed, all_placed, key_same, key_is}
 use Rattle.map_root.proofs.Runs.{run_child, run_strings, smaller, prefix_all, All-is_prefix, Placed-take, Placed-drop, AreWhole-drop, IsRising-keys-drop}
-use Rattle.map_root.proofs.Hashed.{strings_unfold, strings_skip, strings_below_none, strings_none}
+use Rattle.trie_model.proofs.Strings.{strings_unfold, strings_skip, strings_below_none, strings_none}
 
 -- the children so far and those of the rest are all children of the node; the nodes hashed since
 -- the walk began and those below the rest are all nodes below it
