@@ -4,7 +4,8 @@ pub mod TextLines
 pub mod Overlong
 pub mod Pulled
 pub mod Wrote
-pub mod DigestLemmas
 pub mod MapLemmas
 pub mod LineByLine
 pub mod RootOutcome
+pub mod DigitTable
+pub mod HexWords

@@ -8,11 +8,16 @@ use Rattle.std.specs.FinMap.Entries.{put, by_order, where_key, is_sorted-where_k
 use Rattle.std.specs.Map.{remove_entry}
 use Rattle.std.specs.BTreeMap.{is_at}
 use Rattle.std.proofs.lemmas.Cmp.{nat_list_cmp_total}
+use Rattle.smallvec.specs.SmallVec.{SmallVec}
 use Rattle.base_model.specs.Bytes.{bytes_cmp}
 use Rattle.trie_model.proofs.Lists.{filter-all}
 use Rattle.trie_model.proofs.Entries.{tied_equal, IsAscending, entries-IsAscending}
 use Rattle.trie_model.specs.Hashing.{value_digest}
 use Rattle.trie_model.specs.Maps.{Map, digest_entry, map_digests}
+
+-- the bytes of a key
+abbrev pub key_items : SmallVec ℕ → List ℕ
+key_items k = k.items
 
 digests-put : (es : List (List ℕ × List ℕ)) (k v : List ℕ) → map digest_entry (put bytes_cmp k v es) ≡ put bytes_cmp k (value_digest v) (map digest_entry es)
 digests-put [] k v = refl

@@ -1,3 +1,4 @@
+pub mod HexWords
 pub mod ReadLine
 pub mod ReadWords
 pub mod StatusText

@@ -1,6 +1,5 @@
 -- What contracts see of a line that was read, and of its words.
-use Rattle.std.specs.Prelude.{◌≡◌, ℕ, List, [], ◌∷◌, Option, Some, None, option_map, Vec, true, false, All}
-use Rattle.std.specs.Global.{Global}
+use Rattle.std.specs.Prelude.{◌≡◌, ℕ, List, [], ◌∷◌, Option, Some, None, true, false, All}
 use Rattle.std.specs.Borrow.{Bor}
 use Rattle.mdb_tool.specs.declared.put_lines.Line.{Line as ReadLine}
 use Rattle.mdb_tool.specs.declared.put_lines.Line.TheVariants.{Skip as ReadSkip, Put as ReadPut, Del as ReadDel}
@@ -12,9 +11,6 @@ abbrev pub seen_line : ReadLine → Line
 seen_line ReadSkip = Skip
 seen_line (ReadPut key value) = Put key.items value.items
 seen_line (ReadDel key) = Del key.items
-
-abbrev pub bytes_of : Option (Vec ℕ Global) → Option (List ℕ)
-bytes_of found = option_map (λ v. v.items) found
 
 -- the first word and the rest of a line, or none where it has no word
 abbrev pub IsNextWord : Option (Bor (List ℕ) × Bor (List ℕ)) → List ℕ → Type 0

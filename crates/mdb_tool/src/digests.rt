@@ -13,15 +13,19 @@ use crate::put_lines::Line;
 use bit_keys::{Branch, Id};
 use map_root::{Builder, root_of_builder};
 use mdb_base::NoMemory;
+use smallvec::SmallVec;
 use std::alloc::Global;
 use std::collections::BTreeMap;
 use std::marker::Model;
 use trie_items::{Digest, value_digest};
 
+/// A key of the map: one of up to 32 bytes in place, so that the ordered map finds its keys beside one another.
+pub(crate) type MapKey = SmallVec<u8, 32>;
+
 /// What is kept of a map to know its root: the digest of each value, in the order of the keys.
 #[derive(Drop)]
 pub(crate) struct Digests {
-    entries: BTreeMap<Vec<u8>, Digest>,
+    entries: BTreeMap<MapKey, Digest>,
 }
 
 impl Model for Digests {
@@ -42,7 +46,7 @@ impl Digests {
     }
 
     /// Puts a digest at a key, in the place of the one that is there.
-    pub(crate) fn put(&mut self, key: Vec<u8>, digest: Digest) -> Result<(), NoMemory>
+    pub(crate) fn put(&mut self, key: MapKey, digest: Digest) -> Result<(), NoMemory>
         ensures ok { OnOk result (self.new ≡ put bytes_cmp key.items digest self.old) }
         ensures err { OnErr result (self.new ≡ self.old) }
     {
@@ -66,8 +70,8 @@ impl Digests {
     }
 
     /// Deletes a key, where it is there.
-    pub(crate) fn remove(&mut self, key: &[u8])
-        ensures { self.new ≡ remove_entry (is_at (bytes_cmp key.now)) self.old }
+    pub(crate) fn remove(&mut self, key: &MapKey)
+        ensures { self.new ≡ remove_entry (is_at (bytes_cmp key.now.items)) self.old }
     {
         self.entries.remove(key);
     }
@@ -79,7 +83,7 @@ impl Digests {
         let Digests { entries } = self;
         let mut builder = Builder::new(alloc, branch);
         for (key, digest) in entries {
-            builder.add(&key, digest)?;
+            builder.add(key.as_slice(), digest)?;
         }
         root_of_builder(alloc, builder)
     }

@@ -7,6 +7,7 @@
 
 mod digests;
 mod help;
+mod hex_words;
 mod lines;
 mod output;
 mod program;

@@ -1,18 +1,14 @@
 // A line of an input that makes a map, read from its bytes.
-ghost use Rattle.std.specs.Prelude.{◌≡◌, ◌≤◌, ◌<◌, ◌∷◌, [], ◌++◌, IfOk, IfSome, IfNone, MatchOption, option_map, length, take, drop, slice_index, Some, All, false, true};
-ghost use Rattle.text_model.specs.Words.{is_blank, hex_word, at_most};
+ghost use Rattle.std.specs.Prelude.{◌≡◌, ◌<◌, ◌∷◌, [], IfOk, IfSome, IfNone, option_map, length, take, slice_index, false, true};
+ghost use Rattle.text_model.specs.Words.{is_blank};
 ghost use Rattle.text_model.specs.PutLines.{line_of, line_of_words};
-ghost use Rattle.mdb_tool.specs.ReadLine.{seen_line, IsNextWord, AreBlanks, HasNoBlank, bytes_of};
+ghost use Rattle.mdb_tool.specs.ReadLine.{seen_line, IsNextWord, AreBlanks, HasNoBlank};
 
+use crate::digests::MapKey;
+use crate::hex_words::{read_key, read_value};
 use crate::lines::LINE_LIMIT;
 use memchr::memchr2;
 use std::alloc::{AllocError, Global};
-
-/// The most bytes of a key.
-const KEY_LIMIT: usize = 256;
-
-/// The most bytes of a value.
-const VALUE_LIMIT: usize = 262_144;
 
 /// What a line asks for.
 #[derive(Drop)]
@@ -20,9 +16,9 @@ pub(crate) enum Line {
     /// Nothing: a comment, or a line without words.
     Skip,
     /// A value at a key.
-    Put { key: Vec<u8>, value: Vec<u8> },
+    Put { key: MapKey, value: Vec<u8> },
     /// No value at a key.
-    Del { key: Vec<u8> },
+    Del { key: MapKey },
 }
 
 // The place of the first byte that is no blank.
@@ -57,23 +53,6 @@ fn next_word(line: &[u8]) -> Option<(&[u8], &[u8])>
     }
 }
 
-// The bytes that a word stands for, where they are no more than a limit.
-fn read_bytes(alloc: Global, word: &[u8], limit: usize) -> Result<Option<Vec<u8>>, AllocError>
-    ensures { IfOk result (λ found. bytes_of found ≡ at_most limit (hex_word word.now)) }
-{
-    if let [b'-'] = word {
-        return Ok(Some(Vec::new(alloc)));
-    }
-    if word.is_empty() {
-        return Ok(None);
-    }
-    match hex::decode(alloc, word) {
-        Ok(bytes) if bytes.len() <= limit => Ok(Some(bytes)),
-        Err(hex::FromHexError::OutOfMemory) => Err(AllocError),
-        _ => Ok(None),
-    }
-}
-
 // A line of two words.
 fn read_del(alloc: Global, command: &[u8], key: &[u8]) -> Result<Option<Line>, AllocError>
     ensures { IfOk result (λ found. option_map seen_line found ≡ line_of_words (command.now ∷ key.now ∷ [])) }
@@ -81,7 +60,7 @@ fn read_del(alloc: Global, command: &[u8], key: &[u8]) -> Result<Option<Line>, A
     if command != b"del".as_slice() {
         return Ok(None);
     }
-    let Some(key) = read_bytes(alloc, key, KEY_LIMIT)? else {
+    let Some(key) = read_key(alloc, key)? else {
         return Ok(None);
     };
     Ok(Some(Line::Del { key }))
@@ -99,10 +78,10 @@ fn read_put(
     if command != b"put".as_slice() {
         return Ok(None);
     }
-    let Some(key) = read_bytes(alloc, key, KEY_LIMIT)? else {
+    let Some(key) = read_key(alloc, key)? else {
         return Ok(None);
     };
-    let Some(value) = read_bytes(alloc, value, VALUE_LIMIT)? else {
+    let Some(value) = read_value(alloc, value)? else {
         return Ok(None);
     };
     Ok(Some(Line::Put { key, value }))

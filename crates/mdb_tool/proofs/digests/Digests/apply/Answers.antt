@@ -7,4 +7,4 @@ returns-in-Put-clause-ok c = λ m is.
 
 pub returns-in-Del-clause-ok : goal.returns-in-Del-clause-ok
 returns-in-Del-clause-ok c = λ m is.
-    rw (c.in-Del.is, map_digests-remove m c.in-Del.key.items, ← is, ← c.deref-in-Del.ensures.value) c.remove.ensures
+    rw (c.in-Del.is, map_digests-remove m c.in-Del.key.items, ← is) c.remove.ensures

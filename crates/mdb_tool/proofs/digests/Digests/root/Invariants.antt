@@ -1,9 +1,10 @@
 use Rattle.std.proofs.Common.{◌≡◌, ◌++◌, map}
-use Rattle.mdb_tool.proofs.DigestLemmas.{plain}
+use Rattle.trie_model.proofs.PlainEntries.{plain}
+use Rattle.mdb_tool.proofs.MapLemmas.{key_items}
 use Rattle.mdb_tool.proofs.digests.Digests.root.Given as goal
 
 abbrev pub invariant-loop-key : goal.invariant-loop-key
 invariant-loop-key l = record {
   branch : l.builder.branch ≡ l.fn.branch;
-  pairs : l.builder.pairs ++ map plain l.key-iterator ≡ l.fn.self;
+  pairs : l.builder.pairs ++ map (plain key_items) l.key-iterator ≡ l.fn.self;
 }
