@@ -4,11 +4,11 @@ use Rattle.std.specs.List.{slice_split, onto_first}
 use Rattle.std.specs.Str.Lines.{lines, lines_of_parts, strip_carriage_return}
 use Rattle.std.proofs.lemmas.Bool.Decides.{nat_tests}
 use Rattle.std.proofs.lemmas.List.{take-append-le, length-take-le, append-nil}
-use Rattle.text_model.specs.Lines.{is_newline, is_overlong, cut_line, lines_of_cut, lines_within}
+use Rattle.text_model.specs.Lines.{is_newline, is_overlong, cut_line, lines_of_cut, settled_lines, lines_within}
 use Rattle.text_model.specs.PutLines.{Line, line_of, first_bad, first_bad_after}
 use Rattle.text_model.specs.Laws.{CutLines, BadLineStays}
 
-cut_front : (limit : ℕ) (front x : List ℕ) → length front ≡ limit + 1 → lines_within limit (front ++ x) ≡ lines_of_cut (slice_split is_newline (take limit front))
+cut_front : (limit : ℕ) (front x : List ℕ) → length front ≡ limit + 1 → lines_within limit (front ++ x) ≡ settled_lines (take limit front)
 cut_front limit front x long =
     let t : nat_le (length (front ++ x)) limit ≡ false = grind (arith, nat_tests, length-append front x) in
     rw (t, take-append-le limit front x (omega arith)) refl
@@ -31,12 +31,12 @@ joined (p ∷ []) (q ∷ qs) = (p ++ q) ∷ qs
 joined (p ∷ r ∷ ps) qs = p ∷ joined (r ∷ ps) qs
 
 -- a list with a first element
-record IsPart (ps : List (List ℕ)) : Type 0 where
-  first : List ℕ
-  others : List (List ℕ)
-  is : ps ≡ first ∷ others
+pub record IsPart (ps : List (List ℕ)) : Type 0 where
+  pub first : List ℕ
+  pub others : List (List ℕ)
+  pub is : ps ≡ first ∷ others
 
-parts : (text : List ℕ) → IsPart (slice_split is_newline text)
+pub parts : (text : List ℕ) → IsPart (slice_split is_newline text)
 parts [] = record { first = []; others = []; is = refl }
 parts (b ∷ bs) = go (is_newline b) (slice_split is_newline bs) (parts bs)
   where
@@ -84,36 +84,54 @@ stripped_grows : (p q : List ℕ) → length (strip_carriage_return p) ≤ lengt
 stripped_grows p [] = let e : length (strip_carriage_return p) ≡ length (strip_carriage_return (p ++ [])) = ap (λ (l : List ℕ). length (strip_carriage_return l)) (sym (append-nil p)) in omega arith
 stripped_grows p (b ∷ q) = omega (arith, strip_most p, strip_least (p ++ b ∷ q), length-append p (b ∷ q))
 
-grown : (p q : List ℕ) → is_overlong (strip_carriage_return p) ≡ true → (is_overlong (strip_carriage_return (p ++ q)) ≡ true) × (is_overlong (p ++ q) ≡ true)
-grown p q h = (longer (strip_carriage_return p) (strip_carriage_return (p ++ q)) h (stripped_grows p q), longer (strip_carriage_return p) (p ++ q) h (omega (arith, strip_most p, length-append p q)))
-  where
-    longer : (l m : List ℕ) → is_overlong l ≡ true → length l ≤ length m → is_overlong m ≡ true
-    longer l m h le = grind (arith, nat_tests)
+longer : (l m : List ℕ) → is_overlong l ≡ true → length l ≤ length m → is_overlong m ≡ true
+longer l m h le = grind (arith, nat_tests)
+
+grown : (p q : List ℕ) → is_overlong (strip_carriage_return p) ≡ true → is_overlong (strip_carriage_return (p ++ q)) ≡ true
+grown p q h = longer (strip_carriage_return p) (strip_carriage_return (p ++ q)) h (stripped_grows p q)
 
 overlong_first : (n : ℕ) (row : List ℕ) (rows : List (List ℕ)) → is_overlong row ≡ true → first_bad n (row ∷ rows) ≡ Some n
 overlong_first n row rows h = rw h refl
 
--- a part that is too long is a bad line, whatever follows it
-long_part : (n : ℕ) (p q : List ℕ) (qs : List (List ℕ)) → is_overlong (strip_carriage_return p) ≡ true → first_bad n (lines_of_parts ((p ++ q) ∷ qs)) ≡ Some n
-long_part n p q (next ∷ qs) h = overlong_first n (strip_carriage_return (p ++ q)) (lines_of_parts (next ∷ qs)) (grown p q h).0
-long_part n p q [] h =
-    let t : (length (p ++ q) == 0) ≡ false = some (p ++ q) (grown p q h).1 in
-    rw t (overlong_first n (p ++ q) [] (grown p q h).1)
+-- ---- how parts make lines
+-- each part but the last is a line, and a last part that is too long is a bad one
+pub record MakesLines (f : List (List ℕ) → List (List ℕ)) : Type 0 where
+  pub next : (p r : List ℕ) (ps : List (List ℕ)) → f (p ∷ r ∷ ps) ≡ strip_carriage_return p ∷ f (r ∷ ps)
+  pub long : (n : ℕ) (p : List ℕ) → is_overlong (strip_carriage_return p) ≡ true → first_bad n (f (p ∷ [])) ≡ Some n
+
+-- so do the lines of a text that ends
+pub makes_ended : MakesLines lines_of_parts
+makes_ended = record { next = λ p r ps. refl; long = λ n p h. ended n p (longer (strip_carriage_return p) p h (strip_most p)) }
   where
     some : (l : List ℕ) → is_overlong l ≡ true → (length l == 0) ≡ false
     some l h = grind (arith, nat_tests)
 
-cut_bad : (n k : ℕ) (p q : List ℕ) (qs : List (List ℕ)) → first_bad n (cut_line p) ≡ Some k → first_bad n (lines_of_parts ((p ++ q) ∷ qs)) ≡ Some k
-cut_bad n k p q qs = go (is_overlong (strip_carriage_return p)) refl
+    ended : (n : ℕ) (p : List ℕ) → is_overlong p ≡ true → first_bad n (lines_of_parts (p ∷ [])) ≡ Some n
+    ended n p h = let t = some p h in rw t (overlong_first n p [] h)
+
+-- and those of a text that is cut
+pub makes_cut : MakesLines lines_of_cut
+makes_cut = record { next = λ p r ps. refl; long = λ n p h. cut n p h }
   where
-    go : (b : Bool) → is_overlong (strip_carriage_return p) ≡ b → first_bad n (cond b (strip_carriage_return p ∷ []) []) ≡ Some k → first_bad n (lines_of_parts ((p ++ q) ∷ qs)) ≡ Some k
-    go true long h = long_part n p q qs long ∙ sym (overlong_first n (strip_carriage_return p) [] long) ∙ h
-    go false short h = let no : ⊥ = cc h in absurd no
+    cut : (n : ℕ) (p : List ℕ) → is_overlong (strip_carriage_return p) ≡ true → first_bad n (cut_line p) ≡ Some n
+    cut n p h = rw h (overlong_first n (strip_carriage_return p) [] h)
 
 -- a line before more parts
-line_and : (p : List ℕ) (ps : List (List ℕ)) → IsPart ps → lines_of_parts (p ∷ ps) ≡ strip_carriage_return p ∷ lines_of_parts ps
-line_and p [] h = let no : ⊥ = cc h.is in absurd no
-line_and p (r ∷ ps) h = refl
+pub line_and : (f : List (List ℕ) → List (List ℕ)) → MakesLines f → (p : List ℕ) (ps : List (List ℕ)) → IsPart ps → f (p ∷ ps) ≡ strip_carriage_return p ∷ f ps
+line_and f makes p [] h = let no : ⊥ = cc h.is in absurd no
+line_and f makes p (r ∷ ps) h = makes.next p r ps
+
+-- a part that is too long is a bad line, whatever follows it
+long_part : (f : List (List ℕ) → List (List ℕ)) → MakesLines f → (n : ℕ) (p q : List ℕ) (qs : List (List ℕ)) → is_overlong (strip_carriage_return p) ≡ true → first_bad n (f ((p ++ q) ∷ qs)) ≡ Some n
+long_part f makes n p q [] h = makes.long n (p ++ q) (grown p q h)
+long_part f makes n p q (next ∷ qs) h = ap (first_bad n) (makes.next (p ++ q) next qs) ∙ overlong_first n (strip_carriage_return (p ++ q)) (f (next ∷ qs)) (grown p q h)
+
+cut_bad : (f : List (List ℕ) → List (List ℕ)) → MakesLines f → (n k : ℕ) (p q : List ℕ) (qs : List (List ℕ)) → first_bad n (cut_line p) ≡ Some k → first_bad n (f ((p ++ q) ∷ qs)) ≡ Some k
+cut_bad f makes n k p q qs = go (is_overlong (strip_carriage_return p)) refl
+  where
+    go : (b : Bool) → is_overlong (strip_carriage_return p) ≡ b → first_bad n (cond b (strip_carriage_return p ∷ []) []) ≡ Some k → first_bad n (f ((p ++ q) ∷ qs)) ≡ Some k
+    go true long h = long_part f makes n p q qs long ∙ sym (overlong_first n (strip_carriage_return p) [] long) ∙ h
+    go false short h = let no : ⊥ = cc h in absurd no
 
 -- after a line, what is told of the later ones
 later_bad : (o : Option Line) (n k : ℕ) (x y : Option ℕ) → (x ≡ Some k → y ≡ Some k) → first_bad_after n o x ≡ Some k → first_bad_after n o y ≡ Some k
@@ -121,22 +139,27 @@ later_bad None n k x y later h = h
 later_bad (Some line) n k x y later h = later h
 
 -- a bad line among the parts of a front is one of the whole
-bad_on : (n k : ℕ) (ps qs : List (List ℕ)) → IsPart qs → first_bad n (lines_of_cut ps) ≡ Some k → first_bad n (lines_of_parts (joined ps qs)) ≡ Some k
+bad_on : (f : List (List ℕ) → List (List ℕ)) → MakesLines f → (n k : ℕ) (ps qs : List (List ℕ)) → IsPart qs → first_bad n (lines_of_cut ps) ≡ Some k → first_bad n (f (joined ps qs)) ≡ Some k
 unfolding joined
-bad_on n k [] qs some h = let no : ⊥ = cc h in absurd no
-bad_on n k (p ∷ []) [] some h = let no : ⊥ = cc some.is in absurd no
-bad_on n k (p ∷ []) (q ∷ qs) some h = cut_bad n k p q qs h
-bad_on n k (p ∷ r ∷ ps) qs some h =
-    ap (first_bad n) (line_and p (joined (r ∷ ps) qs) (joined_parts (r ∷ ps) qs some))
-    ∙ later_bad (line_of (strip_carriage_return p)) n k (first_bad (n + 1) (lines_of_cut (r ∷ ps))) (first_bad (n + 1) (lines_of_parts (joined (r ∷ ps) qs))) (bad_on (n + 1) k (r ∷ ps) qs some) h
+bad_on f makes n k [] qs some h = let no : ⊥ = cc h in absurd no
+bad_on f makes n k (p ∷ []) [] some h = let no : ⊥ = cc some.is in absurd no
+bad_on f makes n k (p ∷ []) (q ∷ qs) some h = cut_bad f makes n k p q qs h
+bad_on f makes n k (p ∷ r ∷ ps) qs some h =
+    ap (first_bad n) (line_and f makes p (joined (r ∷ ps) qs) (joined_parts (r ∷ ps) qs some))
+    ∙ later_bad (line_of (strip_carriage_return p)) n k (first_bad (n + 1) (lines_of_cut (r ∷ ps))) (first_bad (n + 1) (f (joined (r ∷ ps) qs))) (bad_on f makes (n + 1) k (r ∷ ps) qs some) h
+
+-- a bad line that the first bytes of a text settle is the first bad line of the text
+pub settled_bad : (f : List (List ℕ) → List (List ℕ)) → MakesLines f → (n : ℕ) (front rest : List ℕ) → first_bad 1 (settled_lines front) ≡ Some n → first_bad 1 (f (slice_split is_newline (front ++ rest))) ≡ Some n
+settled_bad f makes n front rest h =
+    ap (λ (ps : List (List ℕ)). first_bad 1 (f ps)) (split_joined front rest)
+    ∙ bad_on f makes 1 n (slice_split is_newline front) (slice_split is_newline rest) (parts rest) h
 
 -- a bad line within the limit is the first bad line of the whole
 pub bad_line_stays : BadLineStays
 bad_line_stays limit bytes n = go (nat_le (length bytes) limit)
   where
-    go : (b : Bool) → first_bad 1 (cond b (lines bytes) (lines_of_cut (slice_split is_newline (take limit bytes)))) ≡ Some n → first_bad 1 (lines bytes) ≡ Some n
+    go : (b : Bool) → first_bad 1 (cond b (lines bytes) (settled_lines (take limit bytes))) ≡ Some n → first_bad 1 (lines bytes) ≡ Some n
     go true h = h
     go false h =
         ap (λ (text : List ℕ). first_bad 1 (lines text)) (sym (take-append-drop limit bytes))
-        ∙ ap (λ (ps : List (List ℕ)). first_bad 1 (lines_of_parts ps)) (split_joined (take limit bytes) (drop limit bytes))
-        ∙ bad_on 1 n (slice_split is_newline (take limit bytes)) (slice_split is_newline (drop limit bytes)) (parts (drop limit bytes)) h
+        ∙ settled_bad lines_of_parts makes_ended n (take limit bytes) (drop limit bytes) h

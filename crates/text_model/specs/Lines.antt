@@ -29,6 +29,10 @@ lines_of_cut [] = []
 lines_of_cut (part ∷ []) = cut_line part
 lines_of_cut (part ∷ next ∷ parts) = strip_carriage_return part ∷ lines_of_cut (next ∷ parts)
 
--- the lines of an input of which at most so many bytes are read: all its lines, or those within that many bytes
+-- the lines that the first bytes of an input settle, whatever follows: those whose end stands there, and one that is too long already
+abbrev pub settled_lines : List ℕ → List (List ℕ)
+settled_lines front = lines_of_cut (slice_split is_newline front)
+
+-- the lines of an input of which at most so many bytes are read: all its lines, or those that are settled within that many bytes
 abbrev pub lines_within : ℕ → List ℕ → List (List ℕ)
-lines_within limit bytes = if nat_le (length bytes) limit then lines bytes else lines_of_cut (slice_split is_newline (take limit bytes))
+lines_within limit bytes = if nat_le (length bytes) limit then lines bytes else settled_lines (take limit bytes)
