@@ -1,5 +1,6 @@
--- Laws of lines: what they make, which of them is the first bad one, and which of them are read of a long input.
-use Rattle.std.specs.Prelude.{◌≢◌, Option, ◌≡◌, ◌↔◌, ℕ, ◌+◌, ◌≤◌, List, ◌∷◌, ◌++◌, length, Some, None, IsSome}
+-- Laws of lines: what they make, which of them is the first bad one, and which of them are read of a long input;
+-- and of what the first bytes of an input decide.
+use Rattle.std.specs.Prelude.{◌≢◌, ◌⊎◌, Option, ◌≡◌, ◌↔◌, ℕ, ◌+◌, ◌≤◌, List, [], ◌∷◌, ◌++◌, length, Some, None, IsSome}
 use Rattle.std.specs.List.{AllByRecursion}
 use Rattle.std.specs.FinMap.{get}
 use Rattle.std.specs.Str.Lines.{lines}
@@ -8,7 +9,7 @@ use Rattle.trie_model.specs.Maps.{Map, IsMap, root}
 use Rattle.text_model.specs.Lines.{lines_within}
 use Rattle.text_model.specs.PutLines.{Line, Skip, Put, Del, line_of, first_bad}
 use Rattle.text_model.specs.Texts.{root_text}
-use Rattle.text_model.specs.Outcome.{map_of_lines}
+use Rattle.text_model.specs.Outcome.{Outcome, Finished, map_of_lines, outcome, decided}
 
 -- what lines make is a map of byte strings within the limits of keys and values
 abbrev pub LinesMakeMaps : Type 0
@@ -57,6 +58,18 @@ CutLines =
 -- a bad line within the limit is the first bad line of the whole input, however long that is
 abbrev pub BadLineStays : Type 0
 BadLineStays = (limit : ℕ) (bytes : List ℕ) (n : ℕ) → first_bad 1 (lines_within limit bytes) ≡ Some n → first_bad 1 (lines bytes) ≡ Some n
+
+-- what is decided is the outcome, whatever bytes follow
+abbrev pub DecidedStays : Type 0
+DecidedStays = (words : List (List ℕ)) (front rest : List ℕ) (o : Outcome) → decided words front ≡ Some o → outcome words (front ++ rest) ≡ o
+
+-- no bytes, or bytes whose last one is a newline
+abbrev pub AreWholeLines : List ℕ → Type 0
+AreWholeLines bytes = (bytes ≡ []) ⊎ ((begun : List ℕ) × (bytes ≡ begun ++ 10 ∷ []))
+
+-- where nothing is decided after whole lines, the run is finished if the input ends there
+abbrev pub UndecidedFinishes : Type 0
+UndecidedFinishes = (words : List (List ℕ)) (front : List ℕ) → decided words front ≡ None → AreWholeLines front → (text : List ℕ) × (outcome words front ≡ Finished text)
 
 -- the line of a root has 64 digits between `root ` and its end, and the lines of two roots differ where the roots do
 pub record RootLines : Type 0 where

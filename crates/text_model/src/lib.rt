@@ -1,12 +1,12 @@
 //! The words of text: lines, words, hexadecimal, the map that lines make, the texts that are printed,
-//! and what a run comes to by its words and its whole input.
+//! what a run comes to by its words and its whole input, and what the first bytes decide of that.
 //!
 //! It stands on `base_model` and `trie_model`, and on `hex` for its words. It holds no code: each
 //! function is empty, and its contract is a law of the definitions in `specs/`, or some of their
 //! worked values. Nothing here fails, and nothing here takes memory.
 #![tactic(auto)]
 
-ghost use Rattle.text_model.specs.Laws.{LinesMakeMaps, LastLineCounts, FirstBadLine, CutLines, BadLineStays, RootLines};
+ghost use Rattle.text_model.specs.Laws.{LinesMakeMaps, LastLineCounts, FirstBadLine, CutLines, BadLineStays, DecidedStays, UndecidedFinishes, RootLines};
 ghost use Rattle.text_model.specs.Rows.{OnePairRuns, EmptyRuns, WrongWordRuns, WrongLineRuns, KeyLimitRuns};
 
 /// What lines make is a map of byte strings within the limits of keys and values.
@@ -32,6 +32,16 @@ pub fn cut_lines()
 /// A bad line within the limit of an input is the first bad line of the whole.
 pub fn bad_line_stays()
     ensures { BadLineStays }
+{}
+
+/// What the words and the first bytes of an input decide, the whole input does not change.
+pub fn decided_stays()
+    ensures { DecidedStays }
+{}
+
+/// Where whole lines decide nothing, an input that ends behind them is one of finished work.
+pub fn undecided_finishes()
+    ensures { UndecidedFinishes }
 {}
 
 /// The line of a root tells the root, and always has one length.
