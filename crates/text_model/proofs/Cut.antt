@@ -72,7 +72,7 @@ strip_least l = go (slice_index l (length l - 1) == 13)
     go true = let e = length-take-le (length l - 1) l (omega arith) in omega arith
     go false = omega arith
 
-strip_most : (l : List ℕ) → length (strip_carriage_return l) ≤ length l
+pub strip_most : (l : List ℕ) → length (strip_carriage_return l) ≤ length l
 strip_most l = go (slice_index l (length l - 1) == 13)
   where
     go : (b : Bool) → length (cond b (take (length l - 1) l) l) ≤ length l

@@ -1,7 +1,7 @@
 mod Made
 mod Last
-mod Counted
-mod Cut
+pub mod Counted
+pub mod Cut
 pub mod Decided
 mod Printed
 mod Rows
