@@ -9,3 +9,4 @@ pub mod LineByLine
 pub mod RootOutcome
 pub mod DigitTable
 pub mod HexWords
+pub mod Undecided

@@ -4,12 +4,12 @@ use Rattle.std.specs.Prelude.{slice_index}
 use Rattle.std.specs.List.{slice_split, onto_first}
 use Rattle.std.specs.Str.Lines.{lines_of_parts, strip_carriage_return}
 use Rattle.std.proofs.lemmas.Bool.Decides.{nat_tests}
-use Rattle.std.proofs.lemmas.List.{append-nil, length-take-le, take_all, take-append-le}
-use Rattle.std.proofs.Math.Seq.{take-append-add}
+use Rattle.std.proofs.lemmas.List.{append-nil, length-take-le, take_all}
 use Rattle.std.proofs.lemmas.List.Splits.{slice_split-cons_no}
 use Rattle.text_model.specs.Lines.{is_newline, is_overlong, line_limit, lines_of_cut, lines_within}
 use Rattle.base_model.specs.Faults.{TellsAlike}
 use Rattle.mdb_tool.specs.Stream.{NoNewline, Stream, Pulls, FirstIsOverlong, BeginsOverlong}
+use Rattle.text_model.proofs.Decided.{take_over}
 use Rattle.mdb_tool.proofs.TextLines.{parts}
 
 -- the length of a line without the carriage return at its end
@@ -76,27 +76,6 @@ long_first raw rest none long =
     by_parts raw text first (next ∷ others) is long =
         let l = overlong_more raw first long in
         record { ended = rw is l.1; cut = rw is l.1 }
-
--- the bytes that may be used of two texts, one behind the other
-take_over : (a : ℕ) (xs ys : List ℕ) → take a (xs ++ ys) ≡ take a xs ++ take (a - length xs) ys
-take_over a xs ys = by_order (nat_le a (length xs)) refl
-  where
-    below : (a n : ℕ) → nat_le a n ≡ true → a ≤ n
-    below a n is = grind (arith, nat_tests)
-
-    above : (a n : ℕ) → nat_le a n ≡ false → n < a
-    above a n is = grind (arith, nat_tests)
-
-    by_order : (test : Bool) → nat_le a (length xs) ≡ test → take a (xs ++ ys) ≡ take a xs ++ take (a - length xs) ys
-    by_order true is =
-        let le : a ≤ length xs = below a (length xs) is in
-        let none : a - length xs ≡ 0 = omega arith in
-        rw none (take-append-le a xs ys le ∙ sym (append-nil (take a xs)))
-    by_order false is =
-        let lt : length xs < a = above a (length xs) is in
-        let sum : a ≡ length xs + (a - length xs) = omega arith in
-        let all : take a xs ≡ xs = take_all a xs (omega arith) in
-        rw all (ap (λ (n : ℕ). take n (xs ++ ys)) sum ∙ take-append-add xs ys (a - length xs))
 
 -- a text that begins with such bytes has a first line that is too long, whatever follows
 overlong_within : (a : ℕ) (held more : List ℕ) → NoNewline (take a held) → is_overlong (strip_carriage_return (take a held)) ≡ true → FirstIsOverlong (lines_within a (held ++ more))

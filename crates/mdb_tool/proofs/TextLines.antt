@@ -1,5 +1,5 @@
 -- The lines of a text, taken off its front.
-use Rattle.std.proofs.Common.{Bool, true, false, ◌≡◌, ℕ, suc, ◌+◌, ◌-◌, ◌<◌, ◌≤◌, nat_le, cond, ◌==◌, List, [], ◌∷◌, ◌++◌, length, take, drop, refl, sym, ◌∙◌, ap, subst, arith, length-append, append_assoc, inl, inr, ◌⊎◌, Option, Some, None, min, take-append-drop}
+use Rattle.std.proofs.Common.{Bool, true, false, ◌≡◌, ℕ, suc, ◌+◌, ◌-◌, ◌<◌, ◌≤◌, nat_le, cond, ◌==◌, List, [], ◌∷◌, ◌++◌, length, take, drop, slice_index, refl, sym, ◌∙◌, ap, subst, arith, length-append, append_assoc, inl, inr, ◌⊎◌, Option, Some, None, min, take-append-drop}
 use Rattle.std.specs.List.{slice_split, onto_first}
 use Rattle.std.specs.Str.Lines.{lines_of_parts, strip_carriage_return}
 use Rattle.std.proofs.lemmas.List.Splits.{slice_split_at, slice_split_none, slice_split-cons_yes, slice_split-cons_no}
@@ -7,7 +7,7 @@ use Rattle.std.proofs.lemmas.Bool.Decides.{nat_tests}
 use Rattle.std.proofs.lemmas.List.{length-take, length-take-le, take-take, drop_more, append-nil, nil_from_length, take-append-le}
 use Rattle.std.proofs.Math.Seq.{take-append-add}
 use Rattle.text_model.specs.Lines.{is_newline, is_overlong, lines_of_cut, lines_within}
-use Rattle.mdb_tool.specs.Stream.{NoNewline, Stream, Gives, NoMore, Past, Pulls, EndsAt, IsLast}
+use Rattle.mdb_tool.specs.Stream.{NoNewline, Stream, Gives, Takes, NoMore, Past, Pulls, EndsAt, IsLast}
 use Rattle.base_model.specs.Faults.{TellsAlike}
 use Rattle.base_model.specs.Streams.{AtEnd}
 
@@ -68,6 +68,10 @@ line_off a raw rest le none =
     by_test l x y true = refl
     by_test l x y false = refl
 
+-- what is held, cut at its newline
+cut_at : (held : List ℕ) (i : ℕ) → i < length held → slice_index held i ≡ 10 → held ≡ take i held ++ 10 ∷ drop (i + 1) held
+cut_at held i within newline = sym (take-append-drop i held) ∙ ap (λ (x : List ℕ). take i held ++ x) (drop_more held i 0 within ∙ ap (λ (n : ℕ). n ∷ drop (i + 1) held) newline)
+
 -- the same of what a reader holds and its source has left
 pub gives_at : (old new : Stream) (left left' : Option (List ℕ)) (held : List ℕ) (i : ℕ) → Pulls old.held left held left' → EndsAt old.allowed held i
     → new.held ≡ drop (i + 1) held → new.allowed ≡ old.allowed - (i + 1) → new.line ≡ strip_carriage_return (take i held) → Gives old left new left'
@@ -79,8 +83,7 @@ gives_at old new (Some l) (Some l') held i pulls ends rest fewer text =
     let within : i < length held = ends.1 in
     let lt : i < old.allowed = ends.0 in
     let size : length raw ≡ i = length-take-le i held (omega arith) in
-    let split : held ≡ raw ++ 10 ∷ drop (i + 1) held =
-    sym (take-append-drop i held) ∙ ap (λ (x : List ℕ). raw ++ x) (drop_more held i 0 within ∙ ap (λ (n : ℕ). n ∷ drop (i + 1) held) ends.3) in
+    let split : held ≡ raw ++ 10 ∷ drop (i + 1) held = cut_at held i within ends.3 in
     let whole : old.held ++ l ≡ raw ++ 10 ∷ more = sym pulls ∙ ap (λ (x : List ℕ). x ++ l') split ∙ append_assoc raw (10 ∷ drop (i + 1) held) l' in
     let off : lines_within old.allowed (raw ++ 10 ∷ more) ≡ strip_carriage_return raw ∷ lines_within (old.allowed - (length raw + 1)) more = line_off old.allowed raw more (omega arith) ends.2 in
     let test : nat_le (length more) (old.allowed - (length raw + 1)) ≡ nat_le (length (raw ++ 10 ∷ more)) old.allowed = test_on old.allowed raw more (omega arith) in
@@ -88,6 +91,23 @@ gives_at old new (Some l) (Some l') held i pulls ends rest fewer text =
     let test_i : nat_le (length more) (old.allowed - (i + 1)) ≡ nat_le (length (raw ++ 10 ∷ more)) old.allowed = subst (λ (n : ℕ). nat_le (length more) (old.allowed - (n + 1)) ≡ nat_le (length (raw ++ 10 ∷ more)) old.allowed) size test in (
       rw (whole, rest, fewer, text) off_i,
       rw (whole, rest, fewer) test_i,
+    )
+
+-- and the bytes that the line takes
+pub takes_at : (old new : Stream) (left left' : Option (List ℕ)) (held : List ℕ) (i : ℕ) → Pulls old.held left held left' → EndsAt old.allowed held i
+    → new.held ≡ drop (i + 1) held → new.allowed ≡ old.allowed - (i + 1) → new.line ≡ strip_carriage_return (take i held) → Takes old left new left'
+takes_at old new None left' held i pulls ends rest fewer text = tt
+takes_at old new (Some l) None held i pulls ends rest fewer text = tt
+takes_at old new (Some l) (Some l') held i pulls ends rest fewer text =
+    let raw = take i held in
+    let within : i < length held = ends.1 in
+    let lt : i < old.allowed = ends.0 in
+    let size : length raw ≡ i = length-take-le i held (omega arith) in
+    let split : held ≡ (raw ++ 10 ∷ []) ++ new.held = rw rest (cut_at held i within ends.3 ∙ sym (append_assoc raw (10 ∷ []) (drop (i + 1) held))) in (
+      raw ++ 10 ∷ [],
+      sym pulls ∙ ap (λ (x : List ℕ). x ++ l') split ∙ append_assoc (raw ++ 10 ∷ []) new.held l',
+      omega (arith, length-append raw (10 ∷ [])),
+      inl (inr (raw, refl), cut_on raw [] ends.2 ∙ ap (λ (line : List ℕ). line ∷ []) (sym text)),
     )
 
 -- a text with no newline is one line, or none
@@ -123,6 +143,19 @@ gives_last old new (Some l) (Some l') held pulls last some rest text =
     let u : nat_le 0 new.allowed ≡ true = grind (arith, nat_tests) in (
       rw (whole, nothing, text) (last_line old.allowed held last.0 le some ∙ ap (λ (x : List (List ℕ)). held ∷ x) (sym (no_line new.allowed))),
       rw (whole, nothing) (u ∙ sym t),
+    )
+
+-- and the bytes that it takes
+pub takes_last : (old new : Stream) (left left' : Option (List ℕ)) (held : List ℕ) (n : ℕ) → Pulls old.held left held left' → IsLast old.allowed held left' → n ≡ length held
+    → new.held ≡ [] → new.allowed ≡ old.allowed - n → new.line ≡ held → Takes old left new left'
+takes_last old new None left' held n pulls last size rest fewer text = tt
+takes_last old new (Some l) None held n pulls last size rest fewer text = tt
+takes_last old new (Some l) (Some l') held n pulls last size rest fewer text =
+    let le : length held ≤ old.allowed = last.2 in (
+      held,
+      sym pulls ∙ ap (λ (x : List ℕ). held ++ (x ++ l')) (sym rest),
+      omega arith,
+      inr (sym text, subst NoNewline (sym text) last.0, ap (λ (x : List ℕ). x ++ l') rest ∙ last.1),
     )
 
 -- where nothing is held at the end, no line is left

@@ -1,12 +1,12 @@
 -- What the lines of an input come to, where its source told it.
-use Rattle.std.specs.Prelude.{ℕ, ◌<◌, ◌≤◌, ◌≡◌, List, length, Option, Some, None, IfSome, IsSome}
+use Rattle.std.specs.Prelude.{ℕ, ◌<◌, ◌≤◌, ◌≡◌, List, ◌++◌, length, Option, Some, None, IfSome, IsSome}
 use Rattle.mdb_base.specs.declared.faults.LimitKind.TheVariants.{Input}
 use Rattle.mdb_tool.specs.declared.root_command.Stop.{Stop}
 use Rattle.mdb_tool.specs.declared.root_command.Stop.TheVariants.{Line as AtLine, Read as AtRead, Limit as AtLimit, Memory as AtMemory}
 use Rattle.mdb_tool.specs.declared.status.Status.{Status}
 use Rattle.mdb_tool.specs.declared.status.Status.TheVariants.{BadLine, Limit, Read, NoMemory}
 use Rattle.trie_model.specs.Maps.{Map, map_digests}
-use Rattle.text_model.specs.Lines.{input_limit, lines_within}
+use Rattle.text_model.specs.Lines.{input_limit, settled_lines, lines_within}
 use Rattle.text_model.specs.PutLines.{line_of, after_line, first_bad}
 use Rattle.text_model.specs.Outcome.{map_of_lines}
 
@@ -26,6 +26,10 @@ FirstBad left n = IfSome left (λ bytes. first_bad 1 (lines_within input_limit b
 -- the input goes past its limit, and every line within it is in the grammar
 abbrev pub TooLong : Option (List ℕ) → Type 0
 TooLong left = IfSome left (λ bytes. (input_limit < length bytes) × (first_bad 1 (lines_within input_limit bytes) ≡ None))
+
+-- the bytes that the source gave are within the limit, and every line that they settle is in the grammar
+abbrev pub GoodSoFar : (left left' : Option (List ℕ)) → Type 0
+GoodSoFar left left' = IfSome left (λ bytes. IfSome left' (λ rest. (given : List ℕ) × (bytes ≡ given ++ rest) × (length given ≤ input_limit) × (first_bad 1 (settled_lines given) ≡ None)))
 
 -- the status with which a run ends where the lines were not all read
 abbrev pub status_of_stop : Stop → Status

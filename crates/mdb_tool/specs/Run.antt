@@ -1,5 +1,5 @@
 -- What a run comes to, as its contract says it.
-use Rattle.std.specs.Prelude.{◌≡◌, ◌⊎◌, ℕ, List, [], Option, IfSome}
+use Rattle.std.specs.Prelude.{◌≡◌, ◌⊎◌, ℕ, List, [], ◌++◌, Option, None, IfSome}
 use Rattle.std.specs.Io.KnownBytes.{Appends}
 use Rattle.base_model.specs.Faults.{Rose}
 use Rattle.base_model.specs.Streams.{AtEnd, AppendsPrefix}
@@ -26,6 +26,10 @@ ComesTo outcome_on left expected = IfSome left (λ bytes. outcome_on bytes ≡ e
 -- the outcome on what a source told is finished
 abbrev pub IsFinished : (List ℕ → Outcome) → Option (List ℕ) → Type 0
 IsFinished outcome_on left = IfSome left (λ bytes. (text : List ℕ) × (outcome_on bytes ≡ Finished text))
+
+-- the bytes that a source gave decide nothing, so that the outcome hangs on what it has left
+abbrev pub IsUndecided : (List ℕ → Option Outcome) → (left left' : Option (List ℕ)) → Type 0
+IsUndecided decided_on left left' = IfSome left (λ bytes. IfSome left' (λ rest. (given : List ℕ) × (bytes ≡ given ++ rest) × (decided_on given ≡ None)))
 
 -- a sink has taken a prefix of the text of the outcome since, so nothing where the run is refused
 abbrev pub PrintsPrefix : (List ℕ → Outcome) → Option (List ℕ) → (taken taken' : Option (List ℕ)) → Type 0

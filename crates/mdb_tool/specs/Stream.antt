@@ -1,7 +1,8 @@
 -- A text as lines, as its reader gives them: the bytes that the reader holds, and those that its source has left.
-use Rattle.std.specs.Prelude.{ℕ, ◌+◌, ◌<◌, ◌≤◌, ◌≡◌, false, true, nat_le, List, [], ◌∷◌, ◌++◌, length, take, slice_index, Option, Some, None, IfSome, All}
+use Rattle.std.specs.Prelude.{ℕ, ◌+◌, ◌<◌, ◌≤◌, ◌≡◌, ◌⊎◌, false, true, nat_le, List, [], ◌∷◌, ◌++◌, length, take, slice_index, Option, Some, None, IfSome, All}
 use Rattle.base_model.specs.Streams.{AtEnd}
-use Rattle.text_model.specs.Lines.{is_newline, is_overlong, line_limit, lines_within}
+use Rattle.text_model.specs.Lines.{is_newline, is_overlong, line_limit, settled_lines, lines_within}
+use Rattle.text_model.specs.Laws.{AreWholeLines}
 
 -- no newline stands among the bytes
 abbrev pub NoNewline : List ℕ → Type 0
@@ -26,6 +27,17 @@ Gives old (Some left) new None = Unit {0}
 Gives old (Some left) new (Some left') =
     (lines_within old.allowed (old.held ++ left) ≡ new.line ∷ lines_within new.allowed (new.held ++ left'))
     × (nat_le (length (new.held ++ left')) new.allowed ≡ nat_le (length (old.held ++ left)) old.allowed)
+
+-- the bytes of a line that is given: up to the newline that ends it, or, where nothing follows, the line itself
+abbrev pub IsLineOf : (piece line after : List ℕ) → Type 0
+IsLineOf piece line after = (AreWholeLines piece × (settled_lines piece ≡ line ∷ [])) ⊎ ((piece ≡ line) × NoNewline line × (after ≡ []))
+
+-- the bytes ahead are those of the line that is given and then the bytes ahead of the new reader, which may use so many fewer
+abbrev pub Takes : Stream → Option (List ℕ) → Stream → Option (List ℕ) → Type 0
+Takes old None new left' = Unit {0}
+Takes old (Some left) new None = Unit {0}
+Takes old (Some left) new (Some left') =
+    (piece : List ℕ) × (old.held ++ left ≡ piece ++ (new.held ++ left')) × (length piece + new.allowed ≡ old.allowed) × IsLineOf piece new.line (new.held ++ left')
 
 -- no line is left, and the text is within its limit
 abbrev pub NoMore : Stream → Option (List ℕ) → Type 0
@@ -55,6 +67,10 @@ IsLast allowed held left = NoNewline held × AtEnd left × (length held ≤ allo
 -- no line ends among the bytes that may be used
 abbrev pub NoEnd : ℕ → List ℕ → Type 0
 NoEnd allowed held = NoNewline (take allowed held)
+
+-- what is held is within the bytes that may be used, and settles no line
+abbrev pub SettlesNothing : ℕ → List ℕ → Type 0
+SettlesNothing allowed held = (length held ≤ allowed) × (settled_lines held ≡ [])
 
 -- the most bytes that a reader holds: a line as long as lines may be, a carriage return, and what one read gives
 abbrev pub held_limit : ℕ

@@ -4,7 +4,7 @@ ghost use Rattle.std.specs.Str.Lines.{strip_carriage_return};
 ghost use Rattle.base_model.specs.Faults.{Rose, TellsAlike};
 ghost use Rattle.base_model.specs.Streams.{AtEnd};
 ghost use Rattle.text_model.specs.Lines.{is_overlong};
-ghost use Rattle.mdb_tool.specs.Stream.{Stream, NoNewline, Pulls, Gives, NoMore, Past, BeginsOverlong, EndsAt, IsLast, NoEnd, held_limit};
+ghost use Rattle.mdb_tool.specs.Stream.{Stream, NoNewline, Pulls, Gives, Takes, NoMore, Past, BeginsOverlong, EndsAt, IsLast, NoEnd, SettlesNothing, held_limit};
 
 mod held;
 
@@ -81,6 +81,7 @@ impl LineReader {
     /// end is given, however long it is.
     pub(crate) fn advance<S: Source>(&mut self, input: &mut S) -> Result<bool, LineFault>
         ensures line { result ≡ Ok true → Gives self.old (S.left input.old) self.new (S.left input.new) }
+        ensures takes { result ≡ Ok true → Takes self.old (S.left input.old) self.new (S.left input.new) }
         ensures kept { (result ≡ Ok true → ⊥) → Pulls self.old.held (S.left input.old) self.new.held (S.left input.new) × (self.new.allowed ≡ self.old.allowed) }
         ensures bounded { length self.new.held ≤ held_limit }
         ensures shorter { result ≡ Ok true → self.new.allowed < self.old.allowed }
@@ -90,6 +91,7 @@ impl LineReader {
         ensures tells { TellsAlike (S.left input.old) (S.left input.new) }
         ensures later { S.faults input.old ≤ S.faults input.new }
         ensures read { IsErrOf result LineFault.Read → Rose (S.faults input.old) (S.faults input.new) }
+        ensures undecided { IsErrOf result LineFault.Read → SettlesNothing self.new.allowed self.new.held }
     {
         self.held.skip(self.used);
         self.used = 0;
@@ -130,6 +132,7 @@ fn fill<S: Source>(
     ensures tells { TellsAlike (S.left input.old) (S.left input.new) }
     ensures later { S.faults input.old ≤ S.faults input.new }
     ensures read { IsErrOf result LineFault.Read → Rose (S.faults input.old) (S.faults input.new) }
+    ensures undecided { IsErrOf result LineFault.Read → SettlesNothing allowed held.new }
 {
     let mut scanned = 0usize;
     'pulls: loop {

@@ -2,8 +2,8 @@
 ghost use Rattle.std.specs.Prelude.{◌≡◌, ◌↔◌, ℕ, Err, map, string_bytes};
 ghost use Rattle.base_model.specs.Faults.{Rose};
 ghost use Rattle.text_model.specs.Command.{command_of};
-ghost use Rattle.text_model.specs.Outcome.{outcome, WrongLine, TooMuchInput};
-ghost use Rattle.mdb_tool.specs.Run.{Finishes, ComesTo, IsFinished, PrintsPrefix, PrintsNothing, IsComplete};
+ghost use Rattle.text_model.specs.Outcome.{outcome, decided, WrongLine, TooMuchInput};
+ghost use Rattle.mdb_tool.specs.Run.{Finishes, ComesTo, IsFinished, IsUndecided, PrintsPrefix, PrintsNothing, IsComplete};
 
 use crate::root_command::run_root;
 use crate::status::Status;
@@ -35,6 +35,7 @@ pub fn run<S: Source, K: Sink>(
     ensures line { (n : ℕ) → result ≡ Status.BadLine n → ComesTo (outcome (map string_bytes words.now)) (S.left input.old) (WrongLine n) }
     ensures limit { result ≡ Status.Limit LimitKind.Input → ComesTo (outcome (map string_bytes words.now)) (S.left input.old) TooMuchInput }
     ensures read { result ≡ Status.Read → Rose (S.faults input.old) (S.faults input.new) }
+    ensures undecided { result ≡ Status.Read → IsUndecided (decided (map string_bytes words.now)) (S.left input.old) (S.left input.new) }
     ensures write { result ≡ Status.Write → Rose (K.faults out.old) (K.faults out.new) × IsFinished (outcome (map string_bytes words.now)) (S.left input.old) }
 
     // Where nothing outside fails, the status is that of the outcome, or memory ran out.

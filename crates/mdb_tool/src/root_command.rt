@@ -5,10 +5,10 @@ ghost use Rattle.base_model.specs.Streams.{AtEnd};
 ghost use Rattle.text_model.specs.PutLines.{line_of};
 ghost use Rattle.text_model.specs.Texts.{root_text};
 ghost use Rattle.text_model.specs.Command.{Root};
-ghost use Rattle.text_model.specs.Outcome.{command_outcome, WrongLine, TooMuchInput};
+ghost use Rattle.text_model.specs.Outcome.{command_outcome, command_decided, WrongLine, TooMuchInput};
 ghost use Rattle.bit_keys.specs.Branch.{width_of};
-ghost use Rattle.mdb_tool.specs.Run.{Finishes, ComesTo, IsFinished, PrintsPrefix, PrintsNothing, IsComplete};
-ghost use Rattle.mdb_tool.specs.Reading.{Lays, Makes, FirstBad, TooLong, status_of_stop};
+ghost use Rattle.mdb_tool.specs.Run.{Finishes, ComesTo, IsFinished, IsUndecided, PrintsPrefix, PrintsNothing, IsComplete};
+ghost use Rattle.mdb_tool.specs.Reading.{Lays, Makes, FirstBad, TooLong, GoodSoFar, status_of_stop};
 
 use crate::digests::Digests;
 use crate::lines::{LineFault, LineReader};
@@ -71,6 +71,7 @@ fn read_lines<S: Source>(alloc: Global, input: &mut S, digests: &mut Digests) ->
     ensures limit { result ≡ Err Stop.Limit → TooLong (S.left input.old) }
     ensures later { S.faults input.old ≤ S.faults input.new }
     ensures read { result ≡ Err Stop.Read → Rose (S.faults input.old) (S.faults input.new) }
+    ensures undecided { result ≡ Err Stop.Read → GoodSoFar (S.left input.old) (S.left input.new) }
 {
     let mut reader = LineReader::new(alloc, INPUT_LIMIT);
     let mut number = 1u64;
@@ -114,6 +115,7 @@ pub(crate) fn run_root<S: Source, K: Sink>(
     ensures line { (n : ℕ) → result ≡ Status.BadLine n → ComesTo (command_outcome (Ok (Root (width_of branch)))) (S.left input.old) (WrongLine n) }
     ensures limit { result ≡ Status.Limit LimitKind.Input → ComesTo (command_outcome (Ok (Root (width_of branch)))) (S.left input.old) TooMuchInput }
     ensures read { result ≡ Status.Read → Rose (S.faults input.old) (S.faults input.new) }
+    ensures undecided { result ≡ Status.Read → IsUndecided (command_decided (Ok (Root (width_of branch)))) (S.left input.old) (S.left input.new) }
     ensures write { result ≡ Status.Write → Rose (K.faults out.old) (K.faults out.new) × IsFinished (command_outcome (Ok (Root (width_of branch)))) (S.left input.old) }
     ensures complete { IsComplete (command_outcome (Ok (Root (width_of branch)))) (S.left input.old) (S.faults input.old) (S.faults input.new) (K.faults out.old) (K.faults out.new) result }
 {

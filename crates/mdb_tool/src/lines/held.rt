@@ -1,5 +1,5 @@
 // Bytes that were read from a source and are not used up.
-ghost use Rattle.std.specs.Prelude.{◌≡◌, ◌+◌, ◌≤◌, List, [], take, drop, length, IfOk, OnOk, Ok, IsErrOf};
+ghost use Rattle.std.specs.Prelude.{◌≡◌, ◌+◌, ◌≤◌, List, [], take, drop, length, IfOk, OnOk, OnErr, Ok, IsErrOf};
 ghost use Rattle.base_model.specs.Faults.{Rose, TellsAlike};
 ghost use Rattle.base_model.specs.Streams.{AtEnd};
 ghost use Rattle.mdb_tool.specs.Stream.{Pulls, held_limit};
@@ -65,6 +65,7 @@ impl Held {
         ensures bytes { Pulls self.old (S.left input.old) self.new (S.left input.new) }
         ensures count { IfOk result (λ n. length self.new ≡ length self.old + n) }
         ensures front { OnOk result (take (length self.old) self.new ≡ self.old) }
+        ensures kept { OnErr result (self.new ≡ self.old) }
         ensures end { result ≡ Ok 0 → AtEnd (S.left input.new) }
         ensures bounded { length self.new ≤ held_limit }
         ensures tells { TellsAlike (S.left input.old) (S.left input.new) }
@@ -98,6 +99,7 @@ fn read_behind<S: Source>(buffer: &mut Vec<u8>, input: &mut S) -> Result<usize, 
     ensures bytes { Pulls buffer.old.items (S.left input.old) buffer.new.items (S.left input.new) }
     ensures count { IfOk result (λ n. length buffer.new.items ≡ length buffer.old.items + n) }
     ensures front { OnOk result (take (length buffer.old.items) buffer.new.items ≡ buffer.old.items) }
+    ensures kept { OnErr result (buffer.new.items ≡ buffer.old.items) }
     ensures end { result ≡ Ok 0 → AtEnd (S.left input.new) }
     ensures bounded { length buffer.new.items ≤ held_limit }
     ensures tells { TellsAlike (S.left input.old) (S.left input.new) }

@@ -1,14 +1,26 @@
-use Rattle.std.proofs.Common.{◌≡◌, length, take, arith, sym, subst, ℕ, ◌∙◌, ap, Ok}
+use Rattle.std.proofs.Common.{◌≡◌, length, take, arith, sym, subst, List, ℕ, ◌∙◌, ap, Ok}
 use Rattle.std.proofs.lemmas.List.{take_all}
-use Rattle.mdb_tool.specs.Stream.{NoNewline}
+use Rattle.std.specs.Str.Lines.{strip_carriage_return}
+use Rattle.mdb_tool.specs.Stream.{NoNewline, SettlesNothing}
 use Rattle.mdb_tool.proofs.Scan.{none_held}
 use Rattle.mdb_tool.proofs.Pulled.{pulls_on}
+use Rattle.mdb_tool.proofs.Undecided.{held_settles_none}
 use Rattle.mdb_tool.proofs.lines.fill.Goals as goal
 
 pub returns-in_err-pull-clause-bytes : goal.returns-in_err-pull-clause-bytes
 returns-in_err-pull-clause-bytes g c =
     let k = c.pulls.invariant in
     pulls_on c.args.held.now c.pulls.held c.pull.new.self (g.S.Source.left c.args.input.now) (g.S.Source.left c.pulls.input) (g.S.Source.left c.pull.new.input) k.tells k.bytes c.pull.ensures.bytes
+
+pub returns-in_err-pull-clause-undecided : goal.returns-in_err-pull-clause-undecided
+returns-in_err-pull-clause-undecided g c = λ _.
+    let bytes = c.bytes-bytes.result.now in
+    let none : NoNewline c.pulls.held = none_held c.pulls.held bytes c.min.result c.bytes-bytes.ensures.value (omega arith) c.in_default.ensures in
+    let usable : take c.min.result bytes ≡ c.pulls.held = take_all c.min.result bytes (omega arith) ∙ c.bytes-bytes.ensures.value in
+    let text : take c.text_len.result c.pulls.held ≡ strip_carriage_return c.pulls.held = subst (λ (x : List ℕ). take c.text_len.result x ≡ strip_carriage_return x) usable c.text_len.ensures.text in
+    let size : length bytes ≡ length c.pulls.held = ap length c.bytes-bytes.ensures.value in
+    subst (SettlesNothing c.args.allowed) (sym c.in_err-pull.ensures.kept)
+    (held_settles_none c.args.allowed c.text_len.result c.pulls.held (omega (arith, c.if-allowed-bytes.false)) none text c.if-text_len-gt-LINE_LIMIT.false (omega (arith, c.text_len.ensures.within, ap length usable)))
 
 pub returns-then-branch-eq0-clause-found : goal.returns-then-branch-eq0-clause-found
 returns-then-branch-eq0-clause-found g c =

@@ -1,12 +1,15 @@
-use Rattle.std.proofs.Common.{◌≡◌, ap, refl, subst, arith, Ok, Bool, None}
+use Rattle.std.proofs.Common.{◌≡◌, ℕ, ap, refl, subst, arith, Ok, Bool, None}
 use Rattle.text_model.specs.PutLines.{line_of}
+use Rattle.mdb_tool.specs.Stream.{SettlesNothing}
 use Rattle.mdb_tool.specs.Reading.{FirstBad}
 use Rattle.mdb_tool.proofs.LineByLine.{at_start, goes_on, at_end, past_end, at_overlong, at_bad}
+use Rattle.mdb_tool.proofs.Undecided.{none_used, line_used, good_so_far}
 use Rattle.mdb_tool.proofs.root_command.read_lines.Goals as goal
 
 pub lines-init : goal.lines-init
 lines-init g c = record {
   so_far = at_start (g.S.Source.left c.args.input.now) c.args.digests.now c.new-reader.result c.requires c.new-reader.ensures.held c.new-reader.ensures.allowed;
+  used = none_used (g.S.Source.left c.args.input.now) c.new-reader.result c.new-reader.ensures.held c.new-reader.ensures.allowed;
   room = omega arith;
   tells = (λ x. x, λ x. x);
   later = omega arith;
@@ -17,6 +20,15 @@ returns-in-Ok-false-clause-ok g c =
     let k = c.lines.invariant in
     let end = c.in-Ok-false.ensures.end (ap (λ (b : Bool). Ok b) c.in-Ok-false.field-0-test) in
     (at_end (g.S.Source.left c.args.input.now) (g.S.Source.left c.lines.input) c.lines.number c.lines.digests c.lines.reader k.tells k.so_far end.0, end.1)
+
+pub returns-in-Err-Read-clause-undecided : goal.returns-in-Err-Read-clause-undecided
+returns-in-Err-Read-clause-undecided g c = λ _.
+    let k = c.lines.invariant in
+    let ensured = rw c.in-Err-Read.field-0-is at c.in-Err-Read.ensures in
+    let kept = ensured.kept (λ is. let no : ⊥ = cc is in no) in
+    let held = c.advance.new.self.held in
+    let nothing : SettlesNothing c.lines.reader.allowed held = subst (λ (n : ℕ). SettlesNothing n held) kept.1 (ensured.undecided refl) in
+    good_so_far (g.S.Source.left c.args.input.now) (g.S.Source.left c.lines.input) (g.S.Source.left c.advance.new.input) c.lines.reader held k.tells k.used kept.0 nothing
 
 pub returns-in-Err-Limit-clause-limit : goal.returns-in-Err-Limit-clause-limit
 returns-in-Err-Limit-clause-limit g c = λ _.
@@ -50,6 +62,7 @@ lines-preserved g c =
     let lays = rw c.line.ensures at (c.in-Ok-true-apply_line.ensures.good (ap (λ (b : Bool). Ok b) c.in-Ok-true-apply_line.field-0-test)) in
     record {
       so_far = goes_on (g.S.Source.left c.args.input.now) (g.S.Source.left c.lines.input) (g.S.Source.left c.advance.new.input) c.lines.number c.lines.digests c.apply_line.new.digests c.lines.reader c.advance.new.self k.tells k.so_far gives lays;
+      used = line_used (g.S.Source.left c.args.input.now) (g.S.Source.left c.lines.input) (g.S.Source.left c.advance.new.input) c.lines.reader c.advance.new.self k.tells k.used (c.in-Ok-true.ensures.takes given) lays.good;
       room = omega (arith, k.room, shorter);
       tells = (λ x. k.tells.0 (c.advance.ensures.tells.0 x), λ x. c.advance.ensures.tells.1 (k.tells.1 x));
       later = omega (arith, c.advance.ensures.later);

@@ -4,13 +4,18 @@ use Rattle.text_model.specs.Texts.{root_text}
 use Rattle.text_model.specs.Outcome.{Finished}
 use Rattle.mdb_tool.specs.declared.root_command.Stop.{Stop}
 use Rattle.mdb_tool.specs.Run.{ComesTo}
-use Rattle.mdb_tool.proofs.RootOutcome.{on_root, bad_outcome, made_outcome, finishes, is_finished, prints_prefix, stop_line, stop_complete}
+use Rattle.mdb_tool.proofs.RootOutcome.{on_root, bad_outcome, made_outcome, finishes, is_finished, prints_prefix, undecided_root, stop_line, stop_read, stop_complete}
 use Rattle.mdb_tool.proofs.root_command.run_root.Goals as goal
 
 pub returns-in-Err-clause-line : goal.returns-in-Err-clause-line
 returns-in-Err-clause-line g c = λ n is.
     bad_outcome (width_of c.args.branch) (g.S.Source.left c.args.input.now) n
     (c.in-Err.ensures.line n (ap (λ (s : Stop). Err s) (stop_line c.in-Err.stop n (sym c.status.ensures ∙ is))))
+
+pub returns-in-Err-clause-undecided : goal.returns-in-Err-clause-undecided
+returns-in-Err-clause-undecided g c = λ is.
+    undecided_root (width_of c.args.branch) (g.S.Source.left c.args.input.now) (g.S.Source.left c.read_lines.new.input)
+    (c.in-Err.ensures.undecided (ap (λ (s : Stop). Err s) (stop_read c.in-Err.stop (sym c.status.ensures ∙ is))))
 
 pub returns-in-Err-clause-complete : goal.returns-in-Err-clause-complete
 returns-in-Err-clause-complete g c =

@@ -5,7 +5,7 @@ use Rattle.std.proofs.lemmas.List.{take_all, drop_all}
 use Rattle.mdb_tool.specs.Stream.{Pulls}
 use Rattle.mdb_tool.specs.declared.lines.LineFault.TheVariants.{Limit, Overlong}
 use Rattle.mdb_tool.specs.contracts.lines.LineReader.{the_view}
-use Rattle.mdb_tool.proofs.TextLines.{gives_at, gives_last, past, text_at}
+use Rattle.mdb_tool.proofs.TextLines.{gives_at, gives_last, takes_at, takes_last, past, text_at}
 use Rattle.mdb_tool.proofs.Overlong.{begins_overlong}
 use Rattle.mdb_tool.proofs.lines.LineReader.advance.Goals as goal
 
@@ -40,6 +40,17 @@ returns-in-Some-clause-line g c = λ _.
     text_at held c.bytes.result.now c.text_len-self-inside.result c.in-Some.at c.bytes.ensures.value c.text_len-self-inside.ensures.within c.text_len-self-inside.ensures.text in
     rw (← c.self.view_is) (gives_at (the_view c.self.inside) _ left left' held c.in-Some.at pulls found refl refl text)
 
+pub returns-in-Some-clause-takes : goal.returns-in-Some-clause-takes
+returns-in-Some-clause-takes g c = λ _.
+    let left = g.S.Source.left c.args.input.now in
+    let left' = g.S.Source.left c.fill.new.input in
+    let held = c.fill.new.held in
+    let pulls : Pulls (drop c.self.inside.used c.self.inside.held) left held left' = subst (λ (x : List ℕ). Pulls x left held left') c.skip.ensures c.fill.ensures.bytes in
+    let found = rw c.in-Some.is at c.in_ok-at.ensures.found in
+    let text : take c.text_len-self-inside.result held ≡ strip_carriage_return (take c.in-Some.at held) =
+    text_at held c.bytes.result.now c.text_len-self-inside.result c.in-Some.at c.bytes.ensures.value c.text_len-self-inside.ensures.within c.text_len-self-inside.ensures.text in
+    rw (← c.self.view_is) (takes_at (the_view c.self.inside) _ left left' held c.in-Some.at pulls found refl refl text)
+
 pub returns-else-rest-eq0-clause-line : goal.returns-else-rest-eq0-clause-line
 returns-else-rest-eq0-clause-line g c = λ _.
     let left = g.S.Source.left c.args.input.now in
@@ -50,3 +61,13 @@ returns-else-rest-eq0-clause-line g c = λ _.
     let size : length c.bytes-rest.result.now ≡ length held = ap length c.bytes-rest.ensures.value in
     let some : 0 < length held = omega (arith, c.if-rest-eq0.false) in
     rw (← c.self.view_is) (gives_last (the_view c.self.inside) _ left left' held pulls found some (drop_all (length c.bytes-rest.result.now) held (omega arith)) (take_all (length c.bytes-rest.result.now) held (omega arith)))
+
+pub returns-else-rest-eq0-clause-takes : goal.returns-else-rest-eq0-clause-takes
+returns-else-rest-eq0-clause-takes g c = λ _.
+    let left = g.S.Source.left c.args.input.now in
+    let left' = g.S.Source.left c.fill.new.input in
+    let held = c.fill.new.held in
+    let pulls : Pulls (drop c.self.inside.used c.self.inside.held) left held left' = subst (λ (x : List ℕ). Pulls x left held left') c.skip.ensures c.fill.ensures.bytes in
+    let found = rw c.in-None.is at c.in_ok-at.ensures.found in
+    let size : length c.bytes-rest.result.now ≡ length held = ap length c.bytes-rest.ensures.value in
+    rw (← c.self.view_is) (takes_last (the_view c.self.inside) _ left left' held (length c.bytes-rest.result.now) pulls found size (drop_all (length c.bytes-rest.result.now) held (omega arith)) refl (take_all (length c.bytes-rest.result.now) held (omega arith)))
