@@ -6,3 +6,5 @@ pub mod Stream
 pub mod Counts
 pub mod Reading
 pub mod Run
+pub mod Asked
+pub mod Process

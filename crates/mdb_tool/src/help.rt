@@ -1,4 +1,7 @@
 // The texts of `--help` and `--version`.
+ghost use Rattle.std.specs.Prelude.{◌≡◌, map, string_bytes};
+ghost use Rattle.std.specs.Option.{option_copied};
+ghost use Rattle.mdb_tool.specs.Asked.{asked, word_asked};
 
 /// What `mdb --help` prints.
 pub(crate) const HELP: &str = "mdb: an authenticated map, which one root of 32 bytes vouches for
@@ -23,3 +26,23 @@ The status is 0 where the work is finished. Otherwise a line on standard error t
 
 /// What `mdb --version` prints.
 pub(crate) const VERSION: &str = "mdb 0.1.0\n";
+
+/// The text that the words ask for: a single word may ask for one.
+pub(crate) fn asked_text(words: &[String]) -> Option<&'static str>
+    ensures { option_copied result ≡ asked HELP.now VERSION.now (map string_bytes words.now) }
+{
+    match words {
+        [word] => text_of_word(word.as_str()),
+        _ => None,
+    }
+}
+
+fn text_of_word(word: &str) -> Option<&'static str>
+    ensures { option_copied result ≡ word_asked HELP.now VERSION.now word.now }
+{
+    match word {
+        "--help" => Some(HELP),
+        "--version" => Some(VERSION),
+        _ => None,
+    }
+}

@@ -1,7 +1,7 @@
 ghost use Rattle.std.specs.Prelude.{Some};
 
-use super::*;
-use crate::status::status_number;
+use crate::program::run;
+use crate::status::{Status, status_line, status_number};
 use bit_keys::Id;
 use mdb_base::{Failed, LimitKind, MemSink, MemSource, Sink};
 use sha2::{Digest as Hasher, Sha256};
@@ -11,8 +11,22 @@ use std::test::Fail;
 
 /// A sink that takes at most three bytes at a write.
 #[derive(Drop)]
-struct ShortSink {
+pub(crate) struct ShortSink {
     inner: MemSink,
+}
+
+impl ShortSink {
+    /// A sink that fails the writes whose numbers are listed.
+    pub(crate) fn new(alloc: Global, failing: &[u64]) -> Result<Self, Fail> {
+        Ok(ShortSink {
+            inner: MemSink::new(alloc, Vec::from_slice(alloc, failing)?),
+        })
+    }
+
+    /// The bytes that were written.
+    pub(crate) fn bytes(&self) -> &[u8] {
+        self.inner.bytes()
+    }
 }
 
 impl Sink for ShortSink {
@@ -25,7 +39,7 @@ impl Sink for ShortSink {
     }
 }
 
-fn words(alloc: Global, all: &[&str]) -> Result<Vec<String>, Fail> {
+pub(crate) fn words(alloc: Global, all: &[&str]) -> Result<Vec<String>, Fail> {
     let mut words = Vec::new(alloc);
     for word in all {
         words.push(String::from_str(alloc, word)?)?;
@@ -33,7 +47,12 @@ fn words(alloc: Global, all: &[&str]) -> Result<Vec<String>, Fail> {
     Ok(words)
 }
 
-fn source(alloc: Global, text: &[u8], piece: usize, failing: &[u64]) -> Result<MemSource, Fail> {
+pub(crate) fn source(
+    alloc: Global,
+    text: &[u8],
+    piece: usize,
+    failing: &[u64],
+) -> Result<MemSource, Fail> {
     Ok(MemSource::new(
         Vec::from_slice(alloc, text)?,
         piece.max(1),
@@ -213,10 +232,7 @@ fn each_write_that_fails_ends_the_run(rt: HostRuntime) -> Result<(), Fail> {
     // The line has 70 bytes, so 24 writes of at most three.
     for call in 0..25usize {
         let mut input = source(alloc, b"put 6b 76\n", 4, &[])?;
-        let failing = Vec::from_slice(alloc, &[call as u64])?;
-        let mut out = ShortSink {
-            inner: MemSink::new(alloc, failing),
-        };
+        let mut out = ShortSink::new(alloc, &[call as u64])?;
         let status = run(alloc, &given, &mut input, &mut out);
         let want = if call < 24 {
             Status::Write
@@ -225,7 +241,7 @@ fn each_write_that_fails_ends_the_run(rt: HostRuntime) -> Result<(), Fail> {
         };
         assert_eq!(rt; status, want, "at {call}");
         let taken = (3 * call).min(line.len());
-        assert_eq!(rt; out.inner.bytes(), &line[..taken], "at {call}");
+        assert_eq!(rt; out.bytes(), &line[..taken], "at {call}");
     }
     Ok(())
 }
@@ -245,22 +261,6 @@ fn each_status_has_its_line_and_its_number(rt: HostRuntime) -> Result<(), Fail> 
     for (status, line, number) in rows {
         assert_eq!(rt; status_line(alloc, &status)?.as_str(), line);
         assert_eq!(rt; status_number(&status), number, "for {line}");
-    }
-    Ok(())
-}
-
-#[test]
-fn a_single_word_may_ask_for_a_text(rt: HostRuntime) -> Result<(), Fail> {
-    let alloc = rt.alloc();
-    let rows: [(&[&str], Option<&str>); 5] = [
-        (&["--help"], Some(HELP)),
-        (&["--version"], Some(VERSION)),
-        (&[], None),
-        (&["-"], None),
-        (&["--help", "root"], None),
-    ];
-    for (given, want) in rows {
-        assert_eq!(rt; asked_text(&words(alloc, given)?), want);
     }
     Ok(())
 }

@@ -1,0 +1,114 @@
+// What the process does around the top call.
+ghost use Rattle.std.specs.Prelude.{◌≡◌, ◌++◌, [], ◌∷◌, ℕ, None, IfOk, IfErr, IfSome, IsSome, map, string_bytes};
+ghost use Rattle.std.specs.Process.{exit_status};
+ghost use Rattle.mdb_tool.specs.declared.status.Status.{Status as StatusValue};
+ghost use Rattle.mdb_tool.specs.StatusText.{number_of_status};
+ghost use Rattle.mdb_tool.specs.Asked.{asked};
+ghost use Rattle.mdb_tool.specs.Process.{IsUntouched, Runs, Prints, Answers, Tells, EndsBy, told_line};
+
+use crate::help::{HELP, VERSION, asked_text};
+use crate::output::write_all;
+use crate::program::run;
+use crate::status::{Status, status_line, status_number};
+use mdb_base::{NoMemory, Sink, Source};
+use std::alloc::Global;
+use std::process::ExitCode;
+
+/// Does what the words ask for, tells on `err` why the work is not finished, and gives the number of
+/// the status. Words that could not be read come with their status.
+pub(crate) fn carry_out<S: Source, K: Sink, E: Sink>(
+    alloc: Global,
+    words: Result<Vec<String>, Status>,
+    input: &mut S,
+    out: &mut K,
+    err: &mut E,
+) -> ExitCode
+    // The words are answered by a status, which is told on `err` and gives the number.
+    ensures read { IfOk words (λ words. let given = map string_bytes words.items in (status : StatusValue)
+        × Answers (asked HELP.now VERSION.now given) given
+        (S.left input.old) (S.left input.new) (S.faults input.old) (S.faults input.new)
+        (K.taken out.old) (K.taken out.new) (K.faults out.old) (K.faults out.new) status
+        × EndsBy status (E.taken err.old) (E.taken err.new) (E.faults err.old) (E.faults err.new) (exit_status result)) }
+
+    // Words that could not be read have their status: it is told, and nothing else is done.
+    ensures unread { IfErr words (λ status. EndsBy status (E.taken err.old) (E.taken err.new) (E.faults err.old) (E.faults err.new) (exit_status result)) }
+    ensures input { IfErr words (λ _. IsUntouched (S.left input.old) (S.left input.new) (S.faults input.old) (S.faults input.new)) }
+    ensures out { IfErr words (λ _. IsUntouched (K.taken out.old) (K.taken out.new) (K.faults out.old) (K.faults out.new)) }
+{
+    let status = answer_read(alloc, words, input, out);
+    report(alloc, &status, err);
+    ExitCode::from(status_number(&status))
+}
+
+// Answers the words. Those that could not be read have their status already.
+fn answer_read<S: Source, K: Sink>(
+    alloc: Global,
+    words: Result<Vec<String>, Status>,
+    input: &mut S,
+    out: &mut K,
+) -> Status
+    ensures read { IfOk words (λ words. let given = map string_bytes words.items in
+        Answers (asked HELP.now VERSION.now given) given
+        (S.left input.old) (S.left input.new) (S.faults input.old) (S.faults input.new)
+        (K.taken out.old) (K.taken out.new) (K.faults out.old) (K.faults out.new) result) }
+    ensures unread { IfErr words (λ status. result ≡ status) }
+    ensures input { IfErr words (λ _. IsUntouched (S.left input.old) (S.left input.new) (S.faults input.old) (S.faults input.new)) }
+    ensures out { IfErr words (λ _. IsUntouched (K.taken out.old) (K.taken out.new) (K.faults out.old) (K.faults out.new)) }
+{
+    match words {
+        Ok(words) => answer(alloc, &words, input, out),
+        Err(status) => status,
+    }
+}
+
+/// Does what the words ask for: writes a text about the program, or runs.
+pub(crate) fn answer<S: Source, K: Sink>(
+    alloc: Global,
+    words: &[String],
+    input: &mut S,
+    out: &mut K,
+) -> Status
+    // Where a text is asked for, it is written and nothing is read.
+    ensures asked { IfSome (asked HELP.now VERSION.now (map string_bytes words.now)) (λ text.
+        Prints text (K.taken out.old) (K.taken out.new) (K.faults out.old) (K.faults out.new) result) }
+    ensures unread { IsSome (asked HELP.now VERSION.now (map string_bytes words.now)) → IsUntouched (S.left input.old) (S.left input.new) (S.faults input.old) (S.faults input.new) }
+    // For all other words every clause of `run` holds.
+    ensures run { let given = map string_bytes words.now in asked HELP.now VERSION.now given ≡ None →
+        Runs given
+        (S.left input.old) (S.left input.new) (S.faults input.old) (S.faults input.new)
+        (K.taken out.old) (K.taken out.new) (K.faults out.old) (K.faults out.new) result }
+{
+    let Some(text) = asked_text(words) else {
+        return run(alloc, words, input, out);
+    };
+    match write_all(out, text.as_bytes()) {
+        Ok(()) => Status::Done,
+        Err(_) => Status::Write,
+    }
+}
+
+/// Tells why the work is not finished. Where the sink fails, the number of the status alone tells.
+pub(crate) fn report<E: Sink>(alloc: Global, status: &Status, err: &mut E)
+    ensures quiet { status.now ≡ Status.Done → IsUntouched (E.taken err.old) (E.taken err.new) (E.faults err.old) (E.faults err.new) }
+    ensures told { (status.now ≡ Status.Done → ⊥) → Tells status.now (E.taken err.old) (E.taken err.new) (E.faults err.old) (E.faults err.new) }
+{
+    if *status == Status::Done {
+        return;
+    }
+    let _ = match ended_line(alloc, status) {
+        Ok(line) => write_all(err, line.as_bytes()),
+        Err(_) => write_all(err, b"mdb: no memory\n"),
+    };
+}
+
+// The line that tells of a status, with its end.
+fn ended_line(alloc: Global, status: &Status) -> Result<String, NoMemory>
+    ensures { IfOk result (λ line. string_bytes line ≡ told_line status.now) }
+{
+    let mut line = status_line(alloc, status)?;
+    line.push('\n')?;
+    Ok(line)
+}
+
+#[cfg(test)]
+mod tests;
