@@ -13,7 +13,8 @@ use node_codec::Digest;
 use sha2::{Digest as Hasher, Sha256};
 use std::sync::ledger::Ledger;
 
-fn hash_uvarint(hasher: &mut Sha256, number: u64)
+/// Feeds the groups of a number one by one.
+fn hash_groups(hasher: &mut Sha256, number: u64)
     ensures { (m : List ℕ) → Holds256 hasher.old m → Holds256 hasher.new (m ++ uvarint number) }
 {
     let mut rest = number;
@@ -24,12 +25,38 @@ fn hash_uvarint(hasher: &mut Sha256, number: u64)
     hasher.update(&[rest as u8]);
 }
 
+/// Feeds a number, in one piece where it has two groups at most.
+fn hash_uvarint(hasher: &mut Sha256, number: u64)
+    ensures { (m : List ℕ) → Holds256 hasher.old m → Holds256 hasher.new (m ++ uvarint number) }
+{
+    if number < 128 {
+        hasher.update(&[number as u8]);
+    } else if number < 128 * 128 {
+        hasher.update(&[128 + (number % 128) as u8, (number / 128) as u8]);
+    } else {
+        hash_groups(hasher, number);
+    }
+}
+
+fn hash_child(hasher: &mut Sha256, child: &ChildId)
+    ensures { (m : List ℕ) → Holds256 hasher.old m → Holds256 hasher.new (m ++ child_form (child.now.index, child.now.id)) }
+{
+    if child.index >= 128 {
+        hash_uvarint(hasher, child.index as u64);
+        hasher.update(&child.id);
+        return;
+    }
+    let mut piece = [0; 33];
+    piece[0] = child.index as u8;
+    piece[1..].copy_from_slice(&child.id);
+    hasher.update(&piece);
+}
+
 fn hash_children(hasher: &mut Sha256, children: &[ChildId])
     ensures { (m : List ℕ) → Holds256 hasher.old m → Holds256 hasher.new (m ++ flat_map child_form (children_of children.now)) }
 {
     for child in children {
-        hash_uvarint(hasher, child.index as u64);
-        hasher.update(&child.id);
+        hash_child(hasher, child);
     }
 }
 
@@ -40,8 +67,8 @@ fn hash_digest(hasher: &mut Sha256, digest: Option<&Digest>)
         None => hasher.update(&[0]),
         Some(digest) => {
             let bytes = digest.bytes();
-            hasher.update(&[1]);
-            hash_uvarint(hasher, bytes.len() as u64);
+            // A digest has at most 32 bytes, so its length is one group.
+            hasher.update(&[1, bytes.len() as u8]);
             hasher.update(bytes);
         }
     }
