@@ -31,7 +31,7 @@ pub struct Open {
 fn child_ids(alloc: Global, children: &[Child]) -> Result<Vec<ChildId>, NoMemory>
     ensures { IfOk result (λ made. children_of made.items ≡ map hashed_child (stored_children children.now)) }
 {
-    let mut made = Vec::new(alloc);
+    let mut made = Vec::with_capacity(alloc, children.len())?;
     for child in children {
         made.push(ChildId {
             index: child.index,
