@@ -123,35 +123,78 @@ fn tokens_count_from_the_highest_bit(rt: HostRuntime) -> Result<(), Fail> {
     Ok(())
 }
 
-fn cut(alloc: Global, key: &Key, bits: u64) -> Result<Key, NoMemory> {
-    key.after(alloc, bits.min(key.bits()))
-}
-
-fn parts(alloc: Global, bits: u64, bytes: &[u8]) -> Result<Option<Key>, NoMemory> {
-    Ok(Key::from_parts(bits, Vec::from_slice(alloc, bytes)?))
+// The bytes of the key 12 34 behind so many of its bits.
+fn cut(alloc: Global, bits: u64) -> Result<Vec<u8>, NoMemory> {
+    let key = Key::from_bytes(alloc, &[0x12, 0x34])?;
+    let rest = key.after(alloc, bits.min(key.bits()))?;
+    Ok(Vec::from_slice(alloc, rest.bytes())?)
 }
 
 #[test]
-fn keys_are_made_where_memory_is_ample(rt: HostRuntime) -> Result<(), Fail> {
+fn a_cut_moves_the_bits_to_the_front(rt: HostRuntime) -> Result<(), Fail> {
     let alloc = rt.alloc();
-    let key = Key::from_bytes(alloc, &[0x12, 0x34])?;
-    assert_eq!(rt; key.bytes(), [0x12, 0x34].as_slice());
-    assert!(rt; key.copy(alloc)? == key);
-    assert_eq!(rt; cut(alloc, &key, 4)?.bytes(), [0x23, 0x40].as_slice());
-    assert_eq!(rt; cut(alloc, &key, 5)?.bytes(), [0x46, 0x80].as_slice());
+    for (bits, want) in [
+        (0, [0x12, 0x34].as_slice()),
+        (4, [0x23, 0x40].as_slice()),
+        (5, [0x46, 0x80].as_slice()),
+        (8, [0x34].as_slice()),
+        (16, [].as_slice()),
+    ] {
+        assert_eq!(rt; cut(alloc, bits)?.as_slice(), want);
+    }
+    Ok(())
+}
+
+// The bytes of a key of parts with a token behind it, where the parts make a key.
+fn slot(
+    alloc: Global,
+    bits: u64,
+    bytes: &[u8],
+    branch: Branch,
+    token: u16,
+) -> Result<Vec<u8>, NoMemory> {
+    let Some(key) = Key::from_parts(bits, Vec::from_slice(alloc, bytes)?) else {
+        return Ok(Vec::new(alloc));
+    };
+    let longer = key.slot(alloc, branch, token % branch.factor())?;
+    Ok(Vec::from_slice(alloc, longer.bytes())?)
+}
+
+#[test]
+fn a_token_stands_behind_the_last_bit(rt: HostRuntime) -> Result<(), Fail> {
+    let alloc = rt.alloc();
     assert_eq!(rt;
-        key.slot(alloc, Branch::B4, 2)?.bytes(),
+        slot(alloc, 16, &[0x12, 0x34], Branch::B4, 2)?.as_slice(),
         [0x12, 0x34, 0x80].as_slice()
     );
-    let rest = cut(alloc, &key, 5)?;
     assert_eq!(rt;
-        rest.slot(alloc, Branch::B256, 0xff)?.bytes(),
+        slot(alloc, 11, &[0x46, 0x80], Branch::B256, 0xff)?.as_slice(),
         [0x46, 0x9f, 0xe0].as_slice()
     );
-    assert!(rt; parts(alloc, 11, &[0x46, 0x80])? == Some(rest));
-    assert!(rt; parts(alloc, 11, &[0x46, 0x90])?.is_none());
-    assert!(rt; parts(alloc, 11, &[0x46, 0x80, 0])?.is_none());
-    assert!(rt; parts(alloc, 17, &[0x46, 0x80])?.is_none());
+    Ok(())
+}
+
+// Whether the parts make a key, which is then one with its own copy and has these bytes.
+fn makes_a_key(alloc: Global, bits: u64, bytes: &[u8]) -> Result<bool, NoMemory> {
+    match Key::from_parts(bits, Vec::from_slice(alloc, bytes)?) {
+        Some(key) => Ok(key.copy(alloc)? == key && key.bytes() == bytes),
+        None => Ok(false),
+    }
+}
+
+#[test]
+fn parts_make_a_key_where_zeros_fill_the_last_byte(rt: HostRuntime) -> Result<(), Fail> {
+    let alloc = rt.alloc();
+    assert!(rt; makes_a_key(alloc, 11, &[0x46, 0x80])?);
+    assert!(rt; makes_a_key(alloc, 320, &[0x46; 40])?);
+    assert!(rt; !makes_a_key(alloc, 11, &[0x46, 0x90])?);
+    assert!(rt; !makes_a_key(alloc, 11, &[0x46, 0x80, 0])?);
+    assert!(rt; !makes_a_key(alloc, 17, &[0x46, 0x80])?);
+    Ok(())
+}
+
+#[test]
+fn four_factors_have_a_branch(rt: HostRuntime) -> Result<(), Fail> {
     assert!(rt; Branch::from_factor(16) == Some(Branch::B16));
     assert!(rt; Branch::from_factor(8).is_none());
     Ok(())
