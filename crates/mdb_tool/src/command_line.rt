@@ -1,5 +1,5 @@
 // The words that the system gives.
-ghost use Rattle.std.specs.Prelude.{◌≡◌, ◌⊎◌, IfOk, IfErr, drop};
+ghost use Rattle.std.specs.Prelude.{◌≡◌, IfOk, IfErr, Err, drop};
 ghost use Rattle.std.specs.IoError.{error_kind};
 ghost use Rattle.std.specs.Vec.Iter.{into_iter_items};
 
@@ -7,22 +7,26 @@ use crate::status::Status;
 use mdb_base::NoMemory;
 use std::alloc::Global;
 use std::env::Args;
+use std::io;
 use std::io::ErrorKind;
-use std::rt::Env;
-use std::{env, io};
 
-/// The words behind the program's name. Where one of them is not UTF-8 the system tells none, so the
-/// first is told.
-pub(crate) fn read_command_line(rt: &(impl Env + AllocGlobal)) -> Result<Vec<String>, Status>
-    ensures { IfErr result (λ status. (status ≡ Status.NoMemory) ⊎ (status ≡ Status.BadWords 1)) }
+/// The words behind the program's name, of the arguments that the system gave. Where one of them is not
+/// UTF-8 the system gives none, so the first word is told.
+pub(crate) fn read_command_line(
+    alloc: Global,
+    args: io::Result<Args>,
+) -> Result<Vec<String>, Status>
+    ensures words { IfOk args (λ args. IfOk result (λ words. words.items ≡ drop 1 (into_iter_items args))) }
+    ensures full { IfOk args (λ _. IfErr result (λ status. status ≡ Status.NoMemory)) }
+    ensures memory { IfErr args (λ error. error_kind error ≡ ErrorKind.OutOfMemory → result ≡ Err Status.NoMemory) }
+    ensures text { IfErr args (λ error. (error_kind error ≡ ErrorKind.OutOfMemory → ⊥) → result ≡ Err (Status.BadWords 1)) }
 {
-    let args = match env::args(rt) {
-        Ok(args) => args,
-        Err(error) => return Err(status_of_error(&error)),
-    };
-    match words_of(rt.alloc(), args) {
-        Ok(words) => Ok(words),
-        Err(NoMemory) => Err(Status::NoMemory),
+    match args {
+        Ok(args) => match words_of(alloc, args) {
+            Ok(words) => Ok(words),
+            Err(NoMemory) => Err(Status::NoMemory),
+        },
+        Err(error) => Err(status_of_error(&error)),
     }
 }
 

@@ -23,13 +23,14 @@ mod words;
 
 use command_line::read_command_line;
 use process::carry_out;
+use std::env;
 use std::process::ExitCode;
 use streams::{StdSink, StdSource};
 
 fn main(rt: HostRuntime) -> ExitCode {
     carry_out(
         rt.alloc(),
-        read_command_line(&rt),
+        read_command_line(rt.alloc(), env::args(&rt)),
         &mut StdSource::new(rt.stdin()),
         &mut StdSink::new(rt.stdout()),
         &mut StdSink::new(rt.stderr()),

@@ -1,5 +1,7 @@
 use super::*;
+use std::env;
 use std::env::FillError;
+use std::rt::Env;
 use std::test::Fail;
 
 /// A system with these arguments, the program's name first, and no variables.
@@ -37,7 +39,11 @@ fn the_words_stand_behind_the_name(rt: HostRuntime) -> Result<(), Fail> {
         (&[b"\xff", b"-"], Err(Status::BadWords(1))),
     ];
     for (args, want) in rows {
-        match (read_command_line(&(Given(args), rt.alloc())), want) {
+        let alloc = rt.alloc();
+        match (
+            read_command_line(alloc, env::args(&(Given(args), alloc))),
+            want,
+        ) {
             (Ok(words), Ok(want)) => {
                 assert_eq!(rt; words.len(), want.len());
                 for (word, wanted) in words.iter().zip(want) {
