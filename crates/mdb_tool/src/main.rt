@@ -1,8 +1,8 @@
 //! The program `mdb`: the words of the command line, the input and the output, and one top call, `run`.
 //!
-//! It stands on `map_root` and all below it, and on `hex`, `memchr` and `smallvec`. Its errors are the statuses of
-//! `Status`, each with its cause in the contract of `run`. What the real streams give and take, no
-//! clause can say.
+//! `main` hands them to `carry_out`, which does what stands around `run`. The crate stands on `map_root`
+//! and all below it, and on `hex`, `memchr` and `smallvec`. Its errors are the statuses of `Status`, each
+//! with its cause in the contract of `run`. What the real streams give and take, no clause can say.
 #![tactic(auto)]
 
 mod command_line;

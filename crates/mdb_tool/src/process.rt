@@ -1,8 +1,7 @@
 // What the process does around the top call.
-ghost use Rattle.std.specs.Prelude.{◌≡◌, ◌++◌, [], ◌∷◌, ℕ, None, IfOk, IfErr, IfSome, IsSome, map, string_bytes};
+ghost use Rattle.std.specs.Prelude.{◌≡◌, None, IfOk, IfErr, IfSome, IsSome, map, string_bytes};
 ghost use Rattle.std.specs.Process.{exit_status};
-ghost use Rattle.mdb_tool.specs.declared.status.Status.{Status as StatusValue};
-ghost use Rattle.mdb_tool.specs.StatusText.{number_of_status};
+ghost use Rattle.mdb_tool.specs.declared.status.Status.{Status};
 ghost use Rattle.mdb_tool.specs.Asked.{asked};
 ghost use Rattle.mdb_tool.specs.Process.{IsUntouched, Runs, Prints, Answers, Tells, EndsBy, told_line};
 
@@ -24,14 +23,15 @@ pub(crate) fn carry_out<S: Source, K: Sink, E: Sink>(
     err: &mut E,
 ) -> ExitCode
     // The words are answered by a status, which is told on `err` and gives the number.
-    ensures read { IfOk words (λ words. let given = map string_bytes words.items in (status : StatusValue)
+    ensures read { IfOk words (λ words. let given = map string_bytes words.items in (status : Status)
         × Answers (asked HELP.now VERSION.now given) given
         (S.left input.old) (S.left input.new) (S.faults input.old) (S.faults input.new)
         (K.taken out.old) (K.taken out.new) (K.faults out.old) (K.faults out.new) status
         × EndsBy status (E.taken err.old) (E.taken err.new) (E.faults err.old) (E.faults err.new) (exit_status result)) }
 
     // Words that could not be read have their status: it is told, and nothing else is done.
-    ensures unread { IfErr words (λ status. EndsBy status (E.taken err.old) (E.taken err.new) (E.faults err.old) (E.faults err.new) (exit_status result)) }
+    ensures unread { IfErr words (λ status.
+        EndsBy status (E.taken err.old) (E.taken err.new) (E.faults err.old) (E.faults err.new) (exit_status result)) }
     ensures input { IfErr words (λ _. IsUntouched (S.left input.old) (S.left input.new) (S.faults input.old) (S.faults input.new)) }
     ensures out { IfErr words (λ _. IsUntouched (K.taken out.old) (K.taken out.new) (K.faults out.old) (K.faults out.new)) }
 {
@@ -71,7 +71,8 @@ pub(crate) fn answer<S: Source, K: Sink>(
     // Where a text is asked for, it is written and nothing is read.
     ensures asked { IfSome (asked HELP.now VERSION.now (map string_bytes words.now)) (λ text.
         Prints text (K.taken out.old) (K.taken out.new) (K.faults out.old) (K.faults out.new) result) }
-    ensures unread { IsSome (asked HELP.now VERSION.now (map string_bytes words.now)) → IsUntouched (S.left input.old) (S.left input.new) (S.faults input.old) (S.faults input.new) }
+    ensures unread { IsSome (asked HELP.now VERSION.now (map string_bytes words.now)) →
+        IsUntouched (S.left input.old) (S.left input.new) (S.faults input.old) (S.faults input.new) }
     // For all other words every clause of `run` holds.
     ensures run { let given = map string_bytes words.now in asked HELP.now VERSION.now given ≡ None →
         Runs given

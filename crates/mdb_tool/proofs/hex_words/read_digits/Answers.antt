@@ -1,4 +1,4 @@
-use Rattle.std.proofs.Common.{◌≡◌, ◌+◌, ◌*◌, ◌%◌, length, arith, sym, ◌∙◌}
+use Rattle.std.proofs.Common.{◌≡◌, ◌*◌, ◌%◌, length, arith, ◌∙◌}
 use Rattle.hex.proofs.Pairs.{decode_start, decode_step, decode_done}
 use Rattle.hex.proofs.HexLemmas.{decode_of-even}
 use Rattle.mdb_tool.proofs.HexWords.{refused}
