@@ -95,6 +95,35 @@ fn each_write_of_a_line_may_fail(rt: HostRuntime) -> Result<(), Fail> {
     Ok(())
 }
 
+/// How a process ended: its number, and what its two outputs took.
+#[derive(Drop)]
+struct Ended {
+    code: ExitCode,
+    out: Vec<u8>,
+    err: Vec<u8>,
+}
+
+// Carries out words over an input of this text, where the listed reads, writes to the output and writes to
+// the error output fail.
+fn carried(
+    alloc: Global,
+    words: Result<Vec<String>, Status>,
+    text: &[u8],
+    reads: &[u64],
+    writes: &[u64],
+    lines: &[u64],
+) -> Result<Ended, Fail> {
+    let mut input = source(alloc, text, 4, reads)?;
+    let mut out = MemSink::new(alloc, Vec::from_slice(alloc, writes)?);
+    let mut err = MemSink::new(alloc, Vec::from_slice(alloc, lines)?);
+    let code = carry_out(alloc, words, &mut input, &mut out, &mut err);
+    Ok(Ended {
+        code,
+        out: Vec::from_slice(alloc, out.bytes())?,
+        err: Vec::from_slice(alloc, err.bytes())?,
+    })
+}
+
 #[test]
 fn the_process_ends_with_its_number(rt: HostRuntime) -> Result<(), Fail> {
     let alloc = rt.alloc();
@@ -118,19 +147,10 @@ fn the_process_ends_with_its_number(rt: HostRuntime) -> Result<(), Fail> {
         ),
     ];
     for (given, text, number, printed, told) in rows {
-        let mut input = source(alloc, text, 4, &[])?;
-        let mut out = MemSink::new(alloc, Vec::new(alloc));
-        let mut err = MemSink::new(alloc, Vec::new(alloc));
-        let code = carry_out(
-            alloc,
-            Ok(words(alloc, given)?),
-            &mut input,
-            &mut out,
-            &mut err,
-        );
-        assert_eq!(rt; code, ExitCode::from(number), "of {given:?}");
-        assert_eq!(rt; out.bytes(), printed, "of {given:?}");
-        assert_eq!(rt; err.bytes(), told, "of {given:?}");
+        let ended = carried(alloc, Ok(words(alloc, given)?), text, &[], &[], &[])?;
+        assert_eq!(rt; ended.code, ExitCode::from(number), "of {given:?}");
+        assert_eq!(rt; ended.out.as_slice(), printed, "of {given:?}");
+        assert_eq!(rt; ended.err.as_slice(), told, "of {given:?}");
     }
     Ok(())
 }
@@ -146,33 +166,26 @@ fn a_failure_outside_is_told_by_the_number(rt: HostRuntime) -> Result<(), Fail> 
         (&[], &[0], &[0], 21, b""),
     ];
     for (reads, writes, lines, number, told) in rows {
-        let mut input = source(alloc, b"put 6b 76\n", 4, reads)?;
-        let mut out = MemSink::new(alloc, Vec::from_slice(alloc, writes)?);
-        let mut err = MemSink::new(alloc, Vec::from_slice(alloc, lines)?);
         let given = words(alloc, &["-", "root", "16"])?;
-        let code = carry_out(alloc, Ok(given), &mut input, &mut out, &mut err);
-        assert_eq!(rt; code, ExitCode::from(number));
-        assert_eq!(rt; out.bytes(), b"".as_slice());
-        assert_eq!(rt; err.bytes(), told);
+        let ended = carried(alloc, Ok(given), b"put 6b 76\n", reads, writes, lines)?;
+        assert_eq!(rt; ended.code, ExitCode::from(number));
+        assert!(rt; ended.out.is_empty());
+        assert_eq!(rt; ended.err.as_slice(), told);
     }
     Ok(())
 }
 
 #[test]
 fn words_that_were_not_read_have_their_status(rt: HostRuntime) -> Result<(), Fail> {
-    let alloc = rt.alloc();
     let rows: [(Status, u8, &[u8]); 2] = [
         (Status::BadWords(1), 2, b"mdb: word 1 is not understood\n"),
         (Status::NoMemory, 30, b"mdb: no memory\n"),
     ];
     for (status, number, told) in rows {
-        let mut input = source(alloc, b"put 6b 76\n", 4, &[])?;
-        let mut out = MemSink::new(alloc, Vec::new(alloc));
-        let mut err = MemSink::new(alloc, Vec::new(alloc));
-        let code = carry_out(alloc, Err(status), &mut input, &mut out, &mut err);
-        assert_eq!(rt; code, ExitCode::from(number));
-        assert_eq!(rt; out.bytes(), b"".as_slice());
-        assert_eq!(rt; err.bytes(), told);
+        let ended = carried(rt.alloc(), Err(status), b"put 6b 76\n", &[], &[], &[])?;
+        assert_eq!(rt; ended.code, ExitCode::from(number));
+        assert!(rt; ended.out.is_empty());
+        assert_eq!(rt; ended.err.as_slice(), told);
     }
     Ok(())
 }
