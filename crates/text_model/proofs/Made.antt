@@ -14,7 +14,7 @@ use Rattle.hex.specs.declared.error.FromHexError.{FromHexError}
 use Rattle.hex.proofs.HexLemmas.{decode_of-ok}
 use Rattle.base_model.specs.Bytes.{AreBytes, bytes_cmp}
 use Rattle.base_model.specs.Member.{Member}
-use Rattle.trie_model.specs.Maps.{Map, IsPair, IsMap, key_limit, value_limit}
+use Rattle.trie_model.specs.Maps.{Map, IsPair, IsMap, key_limit, value_limit, limits}
 use Rattle.trie_model.proofs.Lists.{All-member}
 use Rattle.trie_model.proofs.Entries.{member_of_get, get_of_member}
 use Rattle.text_model.specs.Lines.{is_overlong}
@@ -30,36 +30,36 @@ All-of-members P (e ∷ es) h = (h e (inl refl), All-of-members P es (λ f m. h 
 
 -- what a map answers is a pair within the limits
 abbrev Answers : Map → Type 0
-Answers m = (k v : List ℕ) → get m k ≡ Some v → IsPair (k, v)
+Answers m = (k v : List ℕ) → get m k ≡ Some v → IsPair limits (k, v)
 
-answers : (m : Map) → IsMap m → Answers m
-answers m h k v g = All-member IsPair (entries m) (k, v) h (member_of_get m k v g)
+answers : (m : Map) → IsMap limits m → Answers m
+answers m h k v g = All-member (IsPair limits) (entries m) (k, v) h (member_of_get m k v g)
 
-by_answers : (m : Map) → Answers m → IsMap m
-by_answers m h = All-of-members IsPair (entries m) (λ e i. h e.0 e.1 (get_of_member m e.0 e.1 i))
+by_answers : (m : Map) → Answers m → IsMap limits m
+by_answers m h = All-of-members (IsPair limits) (entries m) (λ e i. h e.0 e.1 (get_of_member m e.0 e.1 i))
 
 -- ---- maps after a line
-empty_map : IsMap empty
+empty_map : IsMap limits empty
 empty_map = by_answers empty (λ k v g. let no : ⊥ = cc (g, get-empty {X = List ℕ} bytes_cmp k) in absurd no)
 
 -- a map with a pair put into it
-put_pair : (es : List (List ℕ × List ℕ)) (k v : List ℕ) → IsPair (k, v) → AllByRecursion IsPair es → AllByRecursion IsPair (put bytes_cmp k v es)
+put_pair : (es : List (List ℕ × List ℕ)) (k v : List ℕ) → IsPair limits (k, v) → AllByRecursion (IsPair limits) es → AllByRecursion (IsPair limits) (put bytes_cmp k v es)
 put_pair [] k v p h = (p, tt)
 put_pair (e ∷ es) k v p h = go (bytes_cmp k e.0) (put_pair es k v p h.1)
   where
-    go : (o : Ordering) → AllByRecursion IsPair (put bytes_cmp k v es) → AllByRecursion IsPair (by_order o ((k, v) ∷ e ∷ es) ((e.0, v) ∷ es) (e ∷ put bytes_cmp k v es))
+    go : (o : Ordering) → AllByRecursion (IsPair limits) (put bytes_cmp k v es) → AllByRecursion (IsPair limits) (by_order o ((k, v) ∷ e ∷ es) ((e.0, v) ∷ es) (e ∷ put bytes_cmp k v es))
     go Less rest = (p, h)
     go Equal rest = (record { key_bytes = h.0.key_bytes; value_bytes = p.value_bytes; key_short = h.0.key_short; value_short = p.value_short }, h.1)
     go Greater rest = (h.0, rest)
 
-inserted_map : (m : Map) (k v : List ℕ) → IsPair (k, v) → IsMap m → IsMap (insert m k v)
-inserted_map m k v p h = subst (AllByRecursion IsPair) (sym (entries-insert nat_list_cmp_total m k v)) (put_pair (entries m) k v p h)
+inserted_map : (m : Map) (k v : List ℕ) → IsPair limits (k, v) → IsMap limits m → IsMap limits (insert m k v)
+inserted_map m k v p h = subst (AllByRecursion (IsPair limits)) (sym (entries-insert nat_list_cmp_total m k v)) (put_pair (entries m) k v p h)
 
 kept : (b : Bool) (o : Option (List ℕ)) (v : List ℕ) → cond b None o ≡ Some v → o ≡ Some v
 kept true o v g = absurd (cc g)
 kept false o v g = g
 
-removed_map : (m : Map) (k : List ℕ) → IsMap m → IsMap (remove m k)
+removed_map : (m : Map) (k : List ℕ) → IsMap limits m → IsMap limits (remove m k)
 removed_map m k h = by_answers (remove m k) (λ q v g. answers m h q v (kept (eq_by_cmp bytes_cmp q k) (get m q) v (sym (get-remove nat_list_cmp_total m k q) ∙ g)))
 
 -- ---- what words stand for
@@ -101,7 +101,7 @@ within limit (Some bytes) h = go (nat_le (length bytes) limit) refl
 abbrev PutsPair : Option Line → Type 0
 PutsPair None = Unit {0}
 PutsPair (Some Skip) = Unit {0}
-PutsPair (Some (Put key value)) = IsPair (key, value)
+PutsPair (Some (Put key value)) = IsPair limits (key, value)
 PutsPair (Some (Del key)) = Unit {0}
 
 put_puts : (key value : Option (List ℕ)) → Has (AreBytesWithin key_limit) key → Has (AreBytesWithin value_limit) value → PutsPair (put_of key value)
@@ -134,13 +134,13 @@ line_puts line = go (is_overlong line) (is_comment line)
     go false true = tt
     go false false = words_put (words_of line)
 
-line_map : (m : Map) (o : Option Line) → PutsPair o → IsMap m → IsMap (after_line m o)
+line_map : (m : Map) (o : Option Line) → PutsPair o → IsMap limits m → IsMap limits (after_line m o)
 line_map m None p h = h
 line_map m (Some Skip) p h = h
 line_map m (Some (Put key value)) p h = inserted_map m key value p h
 line_map m (Some (Del key)) p h = removed_map m key h
 
-lines_map : (m : Map) (rows : List (List ℕ)) → IsMap m → IsMap (after_lines m rows)
+lines_map : (m : Map) (rows : List (List ℕ)) → IsMap limits m → IsMap limits (after_lines m rows)
 lines_map m [] h = h
 lines_map m (row ∷ rows) h = lines_map (after_line m (line_of row)) rows (line_map m (line_of row) (line_puts row) h)
 

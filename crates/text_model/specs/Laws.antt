@@ -5,7 +5,7 @@ use Rattle.std.specs.List.{AllByRecursion}
 use Rattle.std.specs.FinMap.{get}
 use Rattle.std.specs.Str.Lines.{lines}
 use Rattle.base_model.specs.Bytes.{AreBytes}
-use Rattle.trie_model.specs.Maps.{Map, IsMap, root}
+use Rattle.trie_model.specs.Maps.{Map, IsMap, limits, root}
 use Rattle.text_model.specs.Lines.{lines_within}
 use Rattle.text_model.specs.PutLines.{Line, Skip, Put, Del, line_of, first_bad}
 use Rattle.text_model.specs.Texts.{root_text}
@@ -13,7 +13,7 @@ use Rattle.text_model.specs.Outcome.{Outcome, Finished, map_of_lines, outcome, d
 
 -- what lines make is a map of byte strings within the limits of keys and values
 abbrev pub LinesMakeMaps : Type 0
-LinesMakeMaps = (rows : List (List ℕ)) → IsMap (map_of_lines rows)
+LinesMakeMaps = (rows : List (List ℕ)) → IsMap limits (map_of_lines rows)
 
 -- a line says nothing of a key
 abbrev pub IsSilentOn : List ℕ → Option Line → Type 0

@@ -12,7 +12,7 @@ use Rattle.std.specs.FinMap.{entries}
 use Rattle.trie_model.specs.Bits.{key_cmp, IsWidth}
 use Rattle.trie_model.specs.Items.{IsWholeItem, Follows, IsOrdered}
 use Rattle.trie_model.specs.Laws.{TableRoot}
-use Rattle.trie_model.specs.Maps.{Map, IsMap, map_items, entry_item}
+use Rattle.trie_model.specs.Maps.{Map, Limits, IsMap, map_items, entry_item}
 use Rattle.trie_model.specs.StoredNode.{StoredChild}
 use Rattle.trie_model.specs.Table.{Row, node_keys, shortest, child_key, is_some, kept_child, table_node, row_at, items_table, hashed_child, first_id}
 use Rattle.trie_model.proofs.Bits.{length-bits_of}
@@ -272,11 +272,11 @@ rising_places (i ∷ is) o = (above i is o.0, rising_places is o.1)
     above i (j ∷ is) f = (f.0.greater, above i is f.1)
 
 -- the items of a map are values with rising keys of whole tokens
-pub Plain-map_items : (w : ℕ) (m : Map) → IsWidth w → IsMap m → Plain w (map_items m)
-Plain-map_items w m ww h =
-    let v = map_items-IsValid w m ww h in
+pub Plain-map_items : (l : Limits) (w : ℕ) (m : Map) → IsWidth w → IsMap l m → Plain w (map_items m)
+Plain-map_items l w m ww h =
+    let v = map_items-IsValid l w m ww h in
     record { pos = ww.0; values = no_stubs_of (entries m); whole = whole_places w (map_items m) (no_stubs_of (entries m)) v.whole; rises = rising_places (map_items m) v.ordered }
 
 -- the root of a map is the ID of the first node of its table
 pub table_root : TableRoot
-table_root w m ww h = first_id-is w (map_items m) (Plain-map_items w m ww h)
+table_root l w m ww h = first_id-is w (map_items m) (Plain-map_items l w m ww h)
