@@ -6,8 +6,9 @@ use Rattle.trie_model.specs.Bits.{IsWidth}
 use Rattle.bit_keys.specs.declared.branch.Branch.{Branch}
 use Rattle.bit_keys.specs.declared.branch.Branch.TheVariants.{B2, B4, B16, B256}
 use Rattle.bit_keys.specs.Branch.{width_of}
+use Rattle.trie_model.specs.Maps.{limits}
 use Rattle.trie_model.specs.StoredNode.{StoredNode, IsStored, stored_form, stored_node}
-use Rattle.trie_model.proofs.StoredNodes.{spelled_is_read, read_is_spelled}
+use Rattle.trie_model.proofs.StoredNodes.{limits-FitsLimits, spelled_is_read, read_is_spelled}
 use Rattle.node_codec.specs.declared.fault.NodeFault.{NodeFault}
 use Rattle.node_codec.specs.Stored.{Gives}
 
@@ -24,10 +25,10 @@ bytes_are [] h = tt
 bytes_are (b ∷ bs) h = (h 0, bytes_are bs (λ i. h (suc i)))
 
 -- a node that was read is in the grammar, and is spelled so
-pub is_found : (b : Branch) (bytes : List ℕ) (r : Result StoredNode NodeFault) → ((i : ℕ) → get_or bytes i 0 < 256) → Gives (λ n. n) r (stored_node (width_of b) bytes) → IfOk r (λ n. IsStored (width_of b) n × (bytes ≡ stored_form n))
-is_found b bytes (Ok n) small h = read_is_spelled (width_of b) bytes n (width_of-IsWidth b) (bytes_are bytes small) h
+pub is_found : (b : Branch) (bytes : List ℕ) (r : Result StoredNode NodeFault) → ((i : ℕ) → get_or bytes i 0 < 256) → Gives (λ n. n) r (stored_node limits (width_of b) bytes) → IfOk r (λ n. IsStored limits (width_of b) n × (bytes ≡ stored_form n))
+is_found b bytes (Ok n) small h = read_is_spelled limits (width_of b) bytes n (width_of-IsWidth b) (bytes_are bytes small) h
 is_found b bytes (Err e) small h = tt
 
 -- the spelling of a node is read, unless memory runs out
-pub is_given : (b : Branch) (bytes : List ℕ) (r : Result StoredNode NodeFault) → Gives (λ n. n) r (stored_node (width_of b) bytes) → (n : StoredNode) → IsStored (width_of b) n → bytes ≡ stored_form n → Gives (λ n. n) r (Ok n)
-is_given b bytes r h n fits e = subst (λ s. Gives (λ n. n) r s) (ap (stored_node (width_of b)) e ∙ spelled_is_read (width_of b) n (width_of-IsWidth b) fits) h
+pub is_given : (b : Branch) (bytes : List ℕ) (r : Result StoredNode NodeFault) → Gives (λ n. n) r (stored_node limits (width_of b) bytes) → (n : StoredNode) → IsStored limits (width_of b) n → bytes ≡ stored_form n → Gives (λ n. n) r (Ok n)
+is_given b bytes r h n fits e = subst (λ s. Gives (λ n. n) r s) (ap (stored_node limits (width_of b)) e ∙ spelled_is_read limits (width_of b) n limits-FitsLimits (width_of-IsWidth b) fits) h

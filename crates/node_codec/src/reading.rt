@@ -1,5 +1,6 @@
 ghost use Rattle.std.specs.Prelude.{◌≡◌, ◌≤◌, length, IfOk, Ok};
 ghost use Rattle.bit_keys.specs.Branch.{width_of};
+ghost use Rattle.trie_model.specs.Maps.{limits};
 ghost use Rattle.trie_model.specs.StoredNode.{StoredNode, IsStored, stored_form, rest_limit, number_at, bytes_at, flag_at, digest_bytes_at, value_at, index_at, bit_count_at, bits_at, rest_at, child_at, children_at, node_at, stored_node};
 ghost use Rattle.node_codec.specs.Stored.{Gives, stored_child, stored_children};
 
@@ -16,18 +17,18 @@ const REST_LIMIT: u64 = 2048;
 /// Reads a stored node, which is all of the bytes.
 pub fn decode(alloc: Global, bytes: &[u8], branch: Branch) -> Result<Node, NodeFault>
     // What is read is in the grammar, and spelled so.
-    ensures found { IfOk result (λ n. IsStored (width_of branch) n × (bytes.now ≡ stored_form n)) }
+    ensures found { IfOk result (λ n. IsStored limits (width_of branch) n × (bytes.now ≡ stored_form n)) }
     // What is spelled so is read, unless memory runs out.
-    ensures only { (n : StoredNode) → IsStored (width_of branch) n → bytes.now ≡ stored_form n → Gives (λ n. n) result (Ok n) }
+    ensures only { (n : StoredNode) → IsStored limits (width_of branch) n → bytes.now ≡ stored_form n → Gives (λ n. n) result (Ok n) }
     // Which field is the first one outside the grammar.
-    ensures exact { Gives (λ n. n) result (stored_node (width_of branch) bytes.now) }
+    ensures exact { Gives (λ n. n) result (stored_node limits (width_of branch) bytes.now) }
 {
     whole_node_of(alloc, bytes, branch)
 }
 
 #[tactic(auto, unfolding(trie_model::specs::StoredNode::stored_node))]
 fn whole_node_of(alloc: Global, bytes: &[u8], branch: Branch) -> Result<Node, NodeFault>
-    ensures { Gives (λ n. n) result (stored_node (width_of branch) bytes.now) }
+    ensures { Gives (λ n. n) result (stored_node limits (width_of branch) bytes.now) }
 {
     let (node, end) = node_of(alloc, bytes, branch)?;
     if end != bytes.len() {
@@ -38,7 +39,7 @@ fn whole_node_of(alloc: Global, bytes: &[u8], branch: Branch) -> Result<Node, No
 
 #[tactic(auto, unfolding(trie_model::specs::StoredNode::node_at))]
 fn node_of(alloc: Global, bytes: &[u8], branch: Branch) -> Result<(Node, usize), NodeFault>
-    ensures exact { Gives (λ x. (x.0, x.1)) result (node_at (width_of branch) bytes.now 0) }
+    ensures exact { Gives (λ x. (x.0, x.1)) result (node_at limits (width_of branch) bytes.now 0) }
     ensures inside { IfOk result (λ x. x.1 ≤ length bytes.now) }
 {
     let (digest, at) = value_of(bytes, 0)?;
@@ -83,7 +84,7 @@ fn children_of(
     count: u64,
 ) -> Result<(Vec<Child>, usize), NodeFault>
     requires { at ≤ length bytes.now }
-    ensures exact { Gives (λ x. (stored_children x.0.items, x.1)) result (children_at count (width_of branch) 0 bytes.now at) }
+    ensures exact { Gives (λ x. (stored_children x.0.items, x.1)) result (children_at limits count (width_of branch) 0 bytes.now at) }
     ensures inside { IfOk result (λ x. x.1 ≤ length bytes.now) }
 {
     // No node has more children than indices, whatever the count says.
@@ -110,7 +111,7 @@ fn child_of(
     low: u64,
 ) -> Result<(Child, usize), NodeFault>
     requires { at ≤ length bytes.now }
-    ensures exact { Gives (λ x. (stored_child x.0, x.1)) result (child_at (width_of branch) low bytes.now at) }
+    ensures exact { Gives (λ x. (stored_child x.0, x.1)) result (child_at limits (width_of branch) low bytes.now at) }
     ensures inside { IfOk result (λ x. x.1 ≤ length bytes.now) }
 {
     let (index, at) = index_of(bytes, at, branch, low)?;
@@ -150,7 +151,7 @@ fn rest_of(
     branch: Branch,
 ) -> Result<(Key, usize), NodeFault>
     requires { at ≤ length bytes.now }
-    ensures exact { Gives (λ x. (x.0, x.1)) result (rest_at (width_of branch) bytes.now at) }
+    ensures exact { Gives (λ x. (x.0, x.1)) result (rest_at limits (width_of branch) bytes.now at) }
     ensures inside { IfOk result (λ x. x.1 ≤ length bytes.now) }
 {
     let (bits, at) = bit_count_of(bytes, at, branch)?;
@@ -160,9 +161,9 @@ fn rest_of(
 #[tactic(auto, unfolding(trie_model::specs::StoredNode::bit_count_at))]
 fn bit_count_of(bytes: &[u8], at: usize, branch: Branch) -> Result<(u64, usize), NodeFault>
     requires { at ≤ length bytes.now }
-    ensures exact { Gives (λ x. (x.0, x.1)) result (bit_count_at (width_of branch) bytes.now at) }
+    ensures exact { Gives (λ x. (x.0, x.1)) result (bit_count_at limits (width_of branch) bytes.now at) }
     ensures inside { IfOk result (λ x. x.1 ≤ length bytes.now) }
-    ensures short { IfOk result (λ x. x.0 ≤ rest_limit) }
+    ensures short { IfOk result (λ x. x.0 ≤ rest_limit limits) }
 {
     let (bits, next) = number_of(bytes, at)?;
     if bits > REST_LIMIT || bits % u64::from(branch.width()) != 0 {
@@ -174,7 +175,7 @@ fn bit_count_of(bytes: &[u8], at: usize, branch: Branch) -> Result<(u64, usize),
 #[tactic(auto, unfolding(trie_model::specs::StoredNode::bits_at))]
 fn key_of(alloc: Global, bytes: &[u8], at: usize, bits: u64) -> Result<(Key, usize), NodeFault>
     requires place { at ≤ length bytes.now }
-    requires short { bits ≤ rest_limit }
+    requires short { bits ≤ rest_limit limits }
     ensures exact { Gives (λ x. (x.0, x.1)) result (bits_at bits bytes.now at) }
     ensures inside { IfOk result (λ x. x.1 ≤ length bytes.now) }
 {
