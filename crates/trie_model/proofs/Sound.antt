@@ -12,6 +12,7 @@ use Rattle.trie_model.specs.Bits.{bits_of, number_of, is_prefix, common_prefix, 
 use Rattle.trie_model.specs.Hashing.{hashed_string, zero_id, Are32}
 use Rattle.trie_model.specs.Ids.{node_key, digest_at, stub_at, below, children, child_of, numbers_from, id_within, id}
 use Rattle.trie_model.specs.Items.{Item, Val, Stub, position, IsItemList}
+pub use Rattle.trie_model.specs.Items.{NoStubs}
 use Rattle.trie_model.specs.Laws.{Describes}
 use Rattle.trie_model.specs.Strings.{descend, strings_below, strings_within, strings, Break, twins, zero_first, zero_second}
 use Rattle.std.proofs.lemmas.Bool.{cases_lt}
@@ -134,7 +135,7 @@ stands_at w is i pos v h =
 
 -- ---- what the look-ups find
 -- a digest that is found is that of a value in the list
-digest_at-of : (k : List Bool) (is : List Item) (d : List ℕ) → digest_at k is ≡ Some d → Member is (Val k d)
+pub digest_at-of : (k : List Bool) (is : List Item) (d : List ℕ) → digest_at k is ≡ Some d → Member is (Val k d)
 digest_at-of k [] d e = absurd (cc)
 digest_at-of k (Val l c ∷ is) d e = go (same_key k l) refl (digest_at-of k is d) e
   where
@@ -144,7 +145,7 @@ digest_at-of k (Val l c ∷ is) d e = go (same_key k l) refl (digest_at-of k is 
 digest_at-of k (Stub p x ∷ is) d e = inr (digest_at-of k is d e)
 
 -- a digest is found at the key of a value
-digest_at-some : (k : List Bool) (is : List Item) (d : List ℕ) → Member is (Val k d) → (c : List ℕ) × (digest_at k is ≡ Some c)
+pub digest_at-some : (k : List Bool) (is : List Item) (d : List ℕ) → Member is (Val k d) → (c : List ℕ) × (digest_at k is ≡ Some c)
 digest_at-some k [] d h = absurd h
 digest_at-some k (Val l c ∷ is) d (inl e) = (c, ap (λ b. cond b (Some c) (digest_at k is)) (let f : l ≡ k = cc in subst (λ l. same_key k l ≡ true) (sym f) (same_key-itself k)))
 digest_at-some k (Val l c ∷ is) d (inr h) = go (same_key k l) (digest_at-some k is d h)
@@ -324,10 +325,6 @@ Break-wider A B C D f g (zero_first a p e) = zero_first a (f a p) e
 Break-wider A B C D f g (zero_second b q e) = zero_second b (g b q) e
 
 -- ---- what a token says
--- a list of values alone
-abbrev pub NoStubs : List Item → Type 0
-NoStubs ns = (p : List Bool) (x : List ℕ) → Member ns (Stub p x) → ⊥
-
 -- in a list of values alone no stub is found
 pub no_stub_at : (s : List Bool) (ns : List Item) → NoStubs ns → stub_at s ns ≡ None
 no_stub_at s ns h = go (stub_at s ns) refl

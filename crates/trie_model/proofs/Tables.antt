@@ -1,5 +1,5 @@
 -- The table of values, group by group, and its root.
-use Rattle.std.proofs.Common.{◌≡◌, ℕ, suc, ◌+◌, ◌*◌, ◌^◌, ◌<◌, Less, Bool, true, false, cond, List, [], ◌∷◌, ◌++◌, length, drop, map, refl, sym, ap, ◌∙◌, arith, subst, inl, inr, Option, Some, None, length-append}
+use Rattle.std.proofs.Common.{◌≡◌, ℕ, suc, ◌+◌, ◌*◌, ◌^◌, Less, Bool, true, false, cond, List, [], ◌∷◌, ◌++◌, length, drop, map, refl, sym, ap, ◌∙◌, arith, subst, inl, inr, Option, Some, None, length-append}
 use Rattle.std.specs.List.{flat_map, AllByRecursion}
 use Rattle.std.proofs.lemmas.List.{map-append}
 use Rattle.sha2.specs.Sha256.{sha256}
@@ -11,6 +11,7 @@ use Rattle.trie_model.specs.Ids.{node_key, digest_at, stub_at, below, numbers_fr
 use Rattle.std.specs.FinMap.{entries}
 use Rattle.trie_model.specs.Bits.{key_cmp, IsWidth}
 use Rattle.trie_model.specs.Items.{IsWholeItem, Follows, IsOrdered}
+pub use Rattle.trie_model.specs.Items.{places, AreValues as Plain}
 use Rattle.trie_model.specs.Laws.{TableRoot}
 use Rattle.trie_model.specs.Maps.{Map, Limits, IsMap, map_items, entry_item}
 use Rattle.trie_model.specs.StoredNode.{StoredChild}
@@ -24,17 +25,6 @@ use Rattle.trie_model.proofs.Rising.{common_prefix_ends, last_of}
 use Rattle.trie_model.proofs.Valid.{map_items-IsValid}
 use Rattle.trie_model.proofs.Sound.{is_prefix-through, same_key-is, node_key-is_prefix, NoStubs, no_stub_at}
 use Rattle.trie_model.proofs.Unfold.{flat_same, id_unfolds}
-
--- the keys of values
-abbrev pub places : List Item → List (List Bool)
-places is = map place_of is
-
--- values with rising keys of whole tokens
-pub record Plain (w : ℕ) (is : List Item) : Type 0 where
-  pub pos : 0 < w
-  pub values : NoStubs is
-  pub whole : AreTokens w (places is)
-  pub rises : IsRising (places is)
 
 -- ---- the keys of values
 -- a value stands at its key
@@ -123,7 +113,7 @@ child_key-is : (w n : ℕ) (s : List Bool) (is : List Item) → Plain w is → l
 child_key-is w n s is p e = ap shortest (node_keys-below w n s (places is) p.pos e p.whole ∙ ap (node_keys w) (sym (places-below w s is p.values)))
 
 -- it is the shortest node key
-root_shortest : (w : ℕ) (i : Item) (is : List Item) → Plain w (i ∷ is) → shortest (node_keys w (places (i ∷ is))) ≡ Some (node_key w (i ∷ is))
+pub root_shortest : (w : ℕ) (i : Item) (is : List Item) → Plain w (i ∷ is) → shortest (node_keys w (places (i ∷ is))) ≡ Some (node_key w (i ∷ is))
 root_shortest w i is p = shortest_is w (node_key w (i ∷ is)) (places (i ∷ is)) p.pos p.whole (root_met w i is p) (root_begins w (i ∷ is) p.values)
 
 -- what a list below a slot begins with
@@ -131,7 +121,7 @@ below-begins : (w : ℕ) (s : List Bool) (is : List Item) (i : Item) → Member 
 below-begins w s is i m = (Member-filter-of (λ i. is_prefix s (position w i)) is i m).1
 
 -- the slot begins the key of the node of what lies there
-slot_begins : (w n : ℕ) (s : List Bool) (is : List Item) (i : Item) (gs : List Item) → Plain w (i ∷ gs) → length s ≡ w * n → below w s is ≡ i ∷ gs → is_prefix s (node_key w (i ∷ gs)) ≡ true
+pub slot_begins : (w n : ℕ) (s : List Bool) (is : List Item) (i : Item) (gs : List Item) → Plain w (i ∷ gs) → length s ≡ w * n → below w s is ≡ i ∷ gs → is_prefix s (node_key w (i ∷ gs)) ≡ true
 slot_begins w n s is i gs p e b =
     let r = root_met w i gs p in
     let a = Member-map-of place_of (i ∷ gs) r.a r.in_a in
@@ -157,7 +147,7 @@ kept-is w n t k s is p e = ap (λ o. kept_child w (length k) t s o is) (child_ke
         (sym (digest-below w s c is p.values (slot_begins w n s is i gs q e b)) ∙ ap (digest_at c) b)
 
 -- a slot is a token longer than the node it is below
-slot_length : (w n t : ℕ) (k : List Bool) → length k ≡ w * n → length (k ++ bits_of w t) ≡ w * suc n
+pub slot_length : (w n t : ℕ) (k : List Bool) → length k ≡ w * n → length (k ++ bits_of w t) ≡ w * suc n
 slot_length w n t k e = length-append k (bits_of w t) ∙ omega (arith, e, length-bits_of w t)
 
 -- a node of the table, group by group
@@ -167,7 +157,7 @@ table_node-is w n k is p e = ap (λ cs. record { digest = digest_at k is; childr
     (flat_same _ _ (numbers_from 0 (2 ^ w)) (λ t. kept-is w (suc n) t k (k ++ bits_of w t) is p (slot_length w n t k e)))
 
 -- what begins a key begins all that goes on from it
-is_prefix-append : (p k q : List Bool) → is_prefix p k ≡ true → is_prefix p (k ++ q) ≡ true
+pub is_prefix-append : (p k q : List Bool) → is_prefix p k ≡ true → is_prefix p (k ++ q) ≡ true
 is_prefix-append [] k q h = refl
 is_prefix-append (true ∷ p) (true ∷ k) q h = is_prefix-append p k q h
 is_prefix-append (false ∷ p) (false ∷ k) q h = is_prefix-append p k q h
@@ -188,7 +178,7 @@ unfoldable pub rows_below : ℕ → List Bool → List Item → List Row
 rows_below w k is = flat_map (λ t. items_table w (below w (k ++ bits_of w t) is)) (numbers_from 0 (2 ^ w))
 
 -- functions that agree on the members make the same of a list
-map_same : {A B : Type 0} (f g : A → B) (xs : List A) → ((x : A) → Member xs x → f x ≡ g x) → map f xs ≡ map g xs
+pub map_same : {A B : Type 0} (f g : A → B) (xs : List A) → ((x : A) → Member xs x → f x ≡ g x) → map f xs ≡ map g xs
 map_same f g [] h = refl
 map_same f g (x ∷ xs) h = rw (h x (inl refl)) (ap (λ r. g x ∷ r) (map_same f g xs (λ y m. h y (inr m))))
 
