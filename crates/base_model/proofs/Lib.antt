@@ -1,3 +1,7 @@
+pub mod GrownLemmas
 pub mod UvarintLemmas
 pub mod ReadNumbers
-pub mod GrownLemmas
+pub mod Bits
+pub mod PackedBits
+pub mod Results
+pub mod Fields

@@ -1,5 +1,5 @@
 -- Reading a number gives back what its spelling says, and nothing else is read.
-use Rattle.std.proofs.Common.{◌≡◌, ℕ, zero, suc, ◌+◌, ◌*◌, ◌/◌, ◌%◌, ◌^◌, ◌<◌, ◌≤◌, Bool, true, false, cond, ◌&&◌, List, [], ◌∷◌, ◌++◌, length, get_or, take, drop, refl, sym, ap, subst, ◌∙◌, arith, ltb, leb, Result, Ok, Err, ◌⊎◌, inl, inr, take-append-drop, length-append, length-take, get_or-take}
+use Rattle.std.proofs.Common.{◌≡◌, ℕ, zero, suc, ◌+◌, ◌*◌, ◌/◌, ◌%◌, ◌^◌, ◌<◌, ◌≤◌, true, false, cond, ◌&&◌, List, [], ◌∷◌, ◌++◌, length, get_or, take, drop, refl, sym, ap, subst, ◌∙◌, arith, ltb, leb, Result, Ok, Err, ◌⊎◌, inl, inr, take-append-drop, length-append, length-take, get_or-take}
 use Rattle.std.proofs.lemmas.Bool.Decides.{nat_tests}
 use Rattle.std.proofs.lemmas.Bool.{cases_lt}
 use Rattle.std.proofs.lemmas.List.{take_at}
@@ -7,6 +7,7 @@ use Rattle.std.proofs.Math.Nat.{pow-succ'}
 use Rattle.base_model.specs.Bytes.{AreBytes}
 use Rattle.base_model.specs.Uvarint.{uvarint}
 use Rattle.base_model.specs.ReadUvarint.{UvarintFault, Long, Short, NotShortest, high_run, groups_value, uvarint_read, SpelledNumbersAreRead, ReadNumbersAreSpelled}
+use Rattle.base_model.proofs.Results.{ok_is, passed}
 use Rattle.base_model.proofs.UvarintLemmas.{uvarint-small, uvarint-big}
 
 -- no run begins with a byte without the high bit
@@ -115,18 +116,6 @@ spelled_is_read n rest lt =
 
 -- ---- what is read is spelled so
 
--- a test whose fault did not come
-not_err : {A : Type 0} (b : Bool) (d : UvarintFault) (x : Result A UvarintFault) (y : A) → cond b (Err d) x ≡ Ok y → (b ≡ false) × (x ≡ Ok y)
-not_err true d x y e = absurd cc
-not_err false d x y e = (refl, e)
-
-abbrev done : {A : Type 0} → A → Result A UvarintFault
-done x = Ok x
-
--- one answer has one value
-ok_is : {A : Type 0} (x y : A) → done x ≡ done y → x ≡ y
-ok_is x y e = cc
-
 abbrev IsFront : List ℕ → ℕ → Type 0
 IsFront bs i = uvarint (groups_value (take (suc i) bs)) ≡ take (suc i) bs
 
@@ -195,9 +184,9 @@ front_bound bytes lt short =
 pub read_is_spelled : ReadNumbersAreSpelled
 unfolding uvarint_read
 read_is_spelled bytes n k fits e =
-    let a = not_err (leb 9 (high_run bytes) && ltb 1 (get_or bytes 9 0)) Long (cond (leb (length bytes) (high_run bytes)) (Err Short) (cond (ltb 0 (high_run bytes) && leb (get_or bytes (high_run bytes) 0) 0) (Err NotShortest) (Ok (groups_value (take (suc (high_run bytes)) bytes), suc (high_run bytes))))) (n, k) e in
-    let b = not_err (leb (length bytes) (high_run bytes)) Short (cond (ltb 0 (high_run bytes) && leb (get_or bytes (high_run bytes) 0) 0) (Err NotShortest) (Ok (groups_value (take (suc (high_run bytes)) bytes), suc (high_run bytes)))) (n, k) a.1 in
-    let c = not_err (ltb 0 (high_run bytes) && leb (get_or bytes (high_run bytes) 0) 0) NotShortest (Ok (groups_value (take (suc (high_run bytes)) bytes), suc (high_run bytes))) (n, k) b.1 in
+    let a = passed (leb 9 (high_run bytes) && ltb 1 (get_or bytes 9 0)) Long (cond (leb (length bytes) (high_run bytes)) (Err Short) (cond (ltb 0 (high_run bytes) && leb (get_or bytes (high_run bytes) 0) 0) (Err NotShortest) (Ok (groups_value (take (suc (high_run bytes)) bytes), suc (high_run bytes))))) (n, k) e in
+    let b = passed (leb (length bytes) (high_run bytes)) Short (cond (ltb 0 (high_run bytes) && leb (get_or bytes (high_run bytes) 0) 0) (Err NotShortest) (Ok (groups_value (take (suc (high_run bytes)) bytes), suc (high_run bytes)))) (n, k) a.1 in
+    let c = passed (ltb 0 (high_run bytes) && leb (get_or bytes (high_run bytes) 0) 0) NotShortest (Ok (groups_value (take (suc (high_run bytes)) bytes), suc (high_run bytes))) (n, k) b.1 in
     finish bytes n k fits (short_enough (high_run bytes) (get_or bytes 9 0) a.0) (long_enough (length bytes) (high_run bytes) b.0) (last_counts (high_run bytes) (get_or bytes (high_run bytes) 0) c.0) c.1
   where
     short_enough : (h g : ℕ) → (leb 9 h && ltb 1 g) ≡ false → 9 ≤ h → g ≤ 1
@@ -209,7 +198,7 @@ read_is_spelled bytes n k fits e =
     last_counts : (h g : ℕ) → (ltb 0 h && leb g 0) ≡ false → 0 < h → 0 < g
     last_counts h g e l = grind (arith, nat_tests)
 
-    finish : (bytes : List ℕ) (n k : ℕ) → AreBytes bytes → (9 ≤ high_run bytes → get_or bytes 9 0 ≤ 1) → high_run bytes < length bytes → (0 < high_run bytes → 0 < get_or bytes (high_run bytes) 0) → done {A = ℕ × ℕ} (groups_value (take (suc (high_run bytes)) bytes), suc (high_run bytes)) ≡ done (n, k) → (n < 2 ^ 64) × (bytes ≡ uvarint n ++ drop k bytes) × (k ≡ length (uvarint n))
+    finish : (bytes : List ℕ) (n k : ℕ) → AreBytes bytes → (9 ≤ high_run bytes → get_or bytes 9 0 ≤ 1) → high_run bytes < length bytes → (0 < high_run bytes → 0 < get_or bytes (high_run bytes) 0) → ◌≡◌ {A = Result (ℕ × ℕ) UvarintFault} (Ok (groups_value (take (suc (high_run bytes)) bytes), suc (high_run bytes))) (Ok (n, k)) → (n < 2 ^ 64) × (bytes ≡ uvarint n ++ drop k bytes) × (k ≡ length (uvarint n))
     finish bytes n k fits short lt last e =
         let front : IsFront bytes (high_run bytes) = elim (cases_lt 0 (high_run bytes)) [ inl p ↦ (front_spelled bytes fits lt (last p)).0 | inr p ↦ single bytes lt (omega (arith, p)) ] in
         let len : length (take (suc (high_run bytes)) bytes) ≡ suc (high_run bytes) = omega (arith, lt, length-take (suc (high_run bytes)) bytes) in

@@ -4,8 +4,8 @@ use Rattle.std.proofs.Common.{◌%◌, min, arith}
 use Rattle.std.specs.Int.{div_ceil}
 use Rattle.std.specs.List.{AllByRecursion}
 use Rattle.bit_keys.specs.Keys.{IsFilledUp}
-use Rattle.trie_model.specs.Bits.{bits_of_bytes}
-use Rattle.trie_model.specs.StoredNode.{are_zeros, bytes_at, bits_at, Padding}
+use Rattle.base_model.specs.Bits.{bits_of_bytes, are_zeros}
+use Rattle.base_model.specs.Fields.{bytes_at, bits_at}
 
 -- the two ways to say that bits are zeros
 zeros : (bs : List Bool) → AllByRecursion (λ b. b ≡ false) bs → are_zeros bs ≡ true
@@ -28,14 +28,14 @@ not_zeros bs h = go (are_zeros bs) refl
     go false e = e
 
 -- a key that was made of its bytes
-pub bits_found : (n at next : ℕ) (bytes p : List ℕ) (k : List Bool) → bytes_at ((n + 7) / 8) bytes at ≡ Ok (p, next) → IsFilledUp n p → k ≡ take n (bits_of_bytes p) → bits_at n bytes at ≡ Ok (k, next)
+pub bits_found : {E : Type 0} (short padding : ℕ → E) (n at next : ℕ) (bytes p : List ℕ) (k : List Bool) → bytes_at short ((n + 7) / 8) bytes at ≡ Ok (p, next) → IsFilledUp n p → k ≡ take n (bits_of_bytes p) → bits_at short padding n bytes at ≡ Ok (k, next)
 unfolding bits_at
-bits_found n at next bytes p k e f g = rw (e, zeros (drop n (bits_of_bytes p)) f.1) (ap (λ k. Ok (k, next)) (sym g))
+bits_found short padding n at next bytes p k e f g = rw (e, zeros (drop n (bits_of_bytes p)) f.1) (ap (λ k. Ok (k, next)) (sym g))
 
 -- bytes that are as many as the bits need, and make no key
-pub bits_dirty : (n at next : ℕ) (bytes p : List ℕ) → bytes_at ((n + 7) / 8) bytes at ≡ Ok (p, next) → length p ≡ (n + 7) / 8 → (IsFilledUp n p → ⊥) → bits_at n bytes at ≡ Err (Padding at)
+pub bits_dirty : {E : Type 0} (short padding : ℕ → E) (n at next : ℕ) (bytes p : List ℕ) → bytes_at short ((n + 7) / 8) bytes at ≡ Ok (p, next) → length p ≡ (n + 7) / 8 → (IsFilledUp n p → ⊥) → bits_at short padding n bytes at ≡ Err (padding at)
 unfolding bits_at
-bits_dirty n at next bytes p e l f = rw (e, not_zeros (drop n (bits_of_bytes p)) (λ z. f (l, z))) refl
+bits_dirty short padding n at next bytes p e l f = rw (e, not_zeros (drop n (bits_of_bytes p)) (λ z. f (l, z))) refl
 
 -- as many bytes as the bits need
 pub bytes_needed : (n m : ℕ) → m ≡ div_ceil n 8 → m ≡ (n + 7) / 8

@@ -1,7 +1,8 @@
 ghost use Rattle.std.specs.Prelude.{◌≡◌, ◌≤◌, length, IfOk, Ok};
 ghost use Rattle.bit_keys.specs.Branch.{width_of};
+ghost use Rattle.base_model.specs.Fields.{number_at, bytes_at, flag_at, bits_at};
 ghost use Rattle.trie_model.specs.Maps.{limits};
-ghost use Rattle.trie_model.specs.StoredNode.{StoredNode, IsStored, stored_form, rest_limit, number_at, bytes_at, flag_at, digest_bytes_at, value_at, index_at, bit_count_at, bits_at, rest_at, child_at, children_at, node_at, stored_node};
+ghost use Rattle.trie_model.specs.StoredNode.{StoredNode, IsStored, stored_form, Short, BadFlag, Padding, rest_limit, bad_varint, digest_bytes_at, value_at, index_at, bit_count_at, rest_at, child_at, children_at, node_at, stored_node};
 ghost use Rattle.node_codec.specs.Stored.{Gives, stored_child, stored_children};
 
 use crate::digest::Digest;
@@ -172,11 +173,11 @@ fn bit_count_of(bytes: &[u8], at: usize, branch: Branch) -> Result<(u64, usize),
     Ok((bits, next))
 }
 
-#[tactic(auto, unfolding(trie_model::specs::StoredNode::bits_at))]
+#[tactic(auto, unfolding(base_model::specs::Fields::bits_at))]
 fn key_of(alloc: Global, bytes: &[u8], at: usize, bits: u64) -> Result<(Key, usize), NodeFault>
     requires place { at ≤ length bytes.now }
     requires short { bits ≤ rest_limit limits }
-    ensures exact { Gives (λ x. (x.0, x.1)) result (bits_at bits bytes.now at) }
+    ensures exact { Gives (λ x. (x.0, x.1)) result (bits_at Short Padding bits bytes.now at) }
     ensures inside { IfOk result (λ x. x.1 ≤ length bytes.now) }
 {
     let (packed, next) = bytes_of(bytes, at, bits.div_ceil(8) as usize)?;
@@ -189,7 +190,7 @@ fn key_of(alloc: Global, bytes: &[u8], at: usize, bits: u64) -> Result<(Key, usi
 
 fn id_of(bytes: &[u8], at: usize) -> Result<(Id, usize), NodeFault>
     requires { at ≤ length bytes.now }
-    ensures exact { Gives (λ x. (x.0, x.1)) result (bytes_at 32 bytes.now at) }
+    ensures exact { Gives (λ x. (x.0, x.1)) result (bytes_at Short 32 bytes.now at) }
     ensures inside { IfOk result (λ x. x.1 ≤ length bytes.now) }
 {
     let (front, next) = bytes_of(bytes, at, 32)?;
@@ -198,10 +199,10 @@ fn id_of(bytes: &[u8], at: usize) -> Result<(Id, usize), NodeFault>
     Ok((id, next))
 }
 
-#[tactic(auto, unfolding(trie_model::specs::StoredNode::flag_at))]
+#[tactic(auto, unfolding(base_model::specs::Fields::flag_at))]
 fn flag_of(bytes: &[u8], at: usize) -> Result<(bool, usize), NodeFault>
     requires { at ≤ length bytes.now }
-    ensures exact { Gives (λ x. (x.0, x.1)) result (flag_at bytes.now at) }
+    ensures exact { Gives (λ x. (x.0, x.1)) result (flag_at Short BadFlag bytes.now at) }
     ensures inside { IfOk result (λ x. x.1 ≤ length bytes.now) }
 {
     if at >= bytes.len() {
@@ -214,10 +215,10 @@ fn flag_of(bytes: &[u8], at: usize) -> Result<(bool, usize), NodeFault>
     }
 }
 
-#[tactic(auto, unfolding(trie_model::specs::StoredNode::number_at))]
+#[tactic(auto, unfolding(base_model::specs::Fields::number_at))]
 fn number_of(bytes: &[u8], at: usize) -> Result<(u64, usize), NodeFault>
     requires { at ≤ length bytes.now }
-    ensures exact { Gives (λ x. (x.0, x.1)) result (number_at bytes.now at) }
+    ensures exact { Gives (λ x. (x.0, x.1)) result (number_at bad_varint bytes.now at) }
     ensures inside { IfOk result (λ x. x.1 ≤ length bytes.now) }
 {
     match read_uvarint(bytes, at) {
@@ -227,10 +228,10 @@ fn number_of(bytes: &[u8], at: usize) -> Result<(u64, usize), NodeFault>
 }
 
 /// The `count` bytes from a place on.
-#[tactic(auto, unfolding(trie_model::specs::StoredNode::bytes_at))]
+#[tactic(auto, unfolding(base_model::specs::Fields::bytes_at))]
 fn bytes_of(bytes: &[u8], at: usize, count: usize) -> Result<(&[u8], usize), NodeFault>
     requires { at ≤ length bytes.now }
-    ensures exact { Gives (λ x. (x.0.now, x.1)) result (bytes_at count bytes.now at) }
+    ensures exact { Gives (λ x. (x.0.now, x.1)) result (bytes_at Short count bytes.now at) }
     ensures inside { IfOk result (λ x. x.1 ≤ length bytes.now) }
     ensures count { IfOk result (λ x. length x.0.now ≡ count) }
 {
