@@ -1,7 +1,7 @@
 -- Laws of the shortest spelling of a number.
 use Rattle.std.proofs.Common.{◌≡◌, ℕ, zero, suc, ◌+◌, ◌/◌, ◌%◌, ◌<◌, ◌≤◌, Bool, true, false, List, [], ◌∷◌, ◌++◌, length, refl, sym, ap, ◌∙◌, arith, ltb}
 use Rattle.std.proofs.lemmas.Bool.Decides.{nat_tests}
-use Rattle.base_model.specs.Uvarint.{uvarint_within, uvarint, UvarintsArePrefixFree, UvarintRows}
+use Rattle.base_model.specs.Uvarint.{uvarint_within, uvarint, UvarintsArePrefixFree, WorkedUvarints}
 
 -- the two ways of a number's spelling
 data Spelled (f n : ℕ) : Type 0 where
@@ -66,6 +66,6 @@ uvarint-big n h = elim (spelled n n) [ last a t ↦ absurd (omega arith) | more 
 pub uvarints_prefix_free : UvarintsArePrefixFree
 uvarints_prefix_free m n x y e = uvarint-apart m n x y e
 
-pub uvarint_rows_hold : UvarintRows
+pub worked_uvarints : WorkedUvarints
 unfolding uvarint
-uvarint_rows_hold = (refl, refl, refl, refl, refl, refl, refl)
+worked_uvarints = (refl, refl, refl, refl, refl, refl, refl)

@@ -16,8 +16,8 @@ abbrev pub UvarintsArePrefixFree : Type 0
 UvarintsArePrefixFree = (m n : ℕ) (x y : List ℕ) → uvarint m ++ x ≡ uvarint n ++ y → (m ≡ n) × (x ≡ y)
 
 -- worked spellings
-abbrev pub UvarintRows : Type 0
-UvarintRows =
+abbrev pub WorkedUvarints : Type 0
+WorkedUvarints =
     (uvarint 0 ≡ 0x00 ∷ [])
     × (uvarint 127 ≡ 0x7f ∷ [])
     × (uvarint 128 ≡ 0x80 ∷ 0x01 ∷ [])

@@ -4,7 +4,7 @@
 //! of the definitions in `specs/`. Nothing here fails, and nothing here takes memory.
 #![tactic(auto)]
 
-ghost use Rattle.base_model.specs.Uvarint.{UvarintsArePrefixFree, UvarintRows};
+ghost use Rattle.base_model.specs.Uvarint.{UvarintsArePrefixFree, WorkedUvarints};
 ghost use Rattle.base_model.specs.ReadUvarint.{SpelledNumbersAreRead, ReadNumbersAreSpelled};
 
 /// No spelling of a number is a prefix of the spelling of another.
@@ -13,8 +13,8 @@ pub fn uvarints_are_prefix_free()
 {}
 
 /// Worked spellings, as Go's package `encoding/binary` writes them.
-pub fn uvarint_rows()
-    ensures { UvarintRows }
+pub fn worked_uvarints()
+    ensures { WorkedUvarints }
 {}
 
 /// The spelling of a number of at most 64 bits is read as that number, whatever follows it.

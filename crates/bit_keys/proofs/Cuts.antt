@@ -1,7 +1,7 @@
 use Rattle.std.proofs.Common.{◌≡◌, ℕ, zero, suc, ◌-◌, ◌*◌, ◌/◌, ◌%◌, ◌^◌, ◌<◌, ◌≤◌, Bool, List, [], ◌∷◌, ◌++◌, length, length-take, get_or, take, refl, sym, ap, ◌∙◌, arith}
 use Rattle.std.proofs.Math.Nat.{min-eq_left}
 use Rattle.std.proofs.lemmas.List.{take-take, append-nil}
-use Rattle.trie_model.proofs.BitsAt.{packed-take, last_kept}
+use Rattle.base_model.proofs.BitsAt.{packed-take, last_kept}
 use Rattle.trie_model.specs.Bits.{bits_of_bytes, packed}
 use Rattle.bit_keys.proofs.KeyFacts.{IsKey, key_bits, key_bytes, same_default}
 

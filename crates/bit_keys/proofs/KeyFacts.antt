@@ -1,6 +1,7 @@
 use Rattle.std.proofs.Common.{◌≡◌, ℕ, zero, suc, ◌*◌, ◌^◌, ◌<◌, ◌≤◌, Bool, false, List, [], ◌∷◌, length, length-take, get_or, take, drop, refl, sym, ap, ◌∙◌, arith, subst}
-use Rattle.trie_model.proofs.HashedString.{take-packed, number-small}
-use Rattle.trie_model.proofs.Keys.{length-bits_of_bytes, length-key}
+use Rattle.base_model.proofs.Bits.{number-small}
+use Rattle.base_model.proofs.PackedBits.{take-packed, length-bits_of_bytes}
+use Rattle.trie_model.proofs.Keys.{length-key}
 use Rattle.trie_model.specs.Bits.{bits_of_bytes, packed, number_of}
 use Rattle.bit_keys.specs.Branch.{width_of, factor_of}
 use Rattle.bit_keys.specs.declared.branch.Branch.{Branch}

@@ -7,9 +7,9 @@ use Rattle.std.specs.Cmp.Lexicographic.{slice_cmp, pointwise, same_text}
 use Rattle.std.proofs.lemmas.Cmp.{lists_total, nat_list_eq_equiv}
 use Rattle.std.proofs.lemmas.Bool.Decides.{nat_tests}
 use Rattle.std.proofs.lemmas.List.{length-replicate}
-use Rattle.trie_model.proofs.Bits.{cmp-bytes}
-use Rattle.trie_model.proofs.HashedString.{take-packed}
-use Rattle.trie_model.proofs.Sound.{same_key-is, same_key-itself}
+use Rattle.trie_model.proofs.Prefixes.{same_key-is, same_key-itself}
+use Rattle.base_model.proofs.PackedBits.{take-packed}
+use Rattle.trie_model.proofs.KeyOrder.{cmp-bytes}
 use Rattle.trie_model.specs.Bits.{bits_of_bytes, packed, key_cmp, same_key}
 
 -- tests one after another, in either grouping

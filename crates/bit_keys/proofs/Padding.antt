@@ -1,6 +1,6 @@
 use Rattle.std.proofs.Common.{◌≡◌, ℕ, ◌+◌, ◌*◌, ◌<◌, Bool, false, List, [], ◌∷◌, ◌++◌, length, refl, ap, ◌∙◌, arith, replicate}
 use Rattle.std.specs.List.{AllByRecursion}
-use Rattle.trie_model.proofs.HashedString.{number-small, bits_of-number_of}
+use Rattle.base_model.proofs.Bits.{number-small, bits_of-number_of}
 use Rattle.trie_model.specs.Bits.{bits_of, bits_of_bytes, packed, byte_from}
 
 -- how many zeros fill up the last byte

@@ -6,9 +6,8 @@ use Rattle.std.proofs.lemmas.Nat.{pow_pos, mod-mul-add}
 use Rattle.std.proofs.Math.Nat.{min-eq_left, pow-le-pow_right}
 use Rattle.std.proofs.lemmas.List.{take-append-drop, drop-append-le, append-nil}
 use Rattle.std.proofs.lemmas.Bool.{cases_lt}
-use Rattle.trie_model.proofs.Bits.{length-bits_of, number_of-bits_of}
-use Rattle.trie_model.proofs.HashedString.{number-small}
-use Rattle.trie_model.proofs.Keys.{length-bits_of_bytes, packed-bits_of_bytes}
+use Rattle.base_model.proofs.PackedBits.{length-bits_of_bytes, packed-bits_of_bytes}
+use Rattle.base_model.proofs.Bits.{length-bits_of, number_of-bits_of, number-small}
 use Rattle.trie_model.specs.Bits.{bits_of, number_of, bits_of_bytes, packed}
 use Rattle.bit_keys.specs.Keys.{IsFilledUp}
 use Rattle.bit_keys.proofs.KeyFacts.{drop_past, packed-small, same_default}

@@ -6,8 +6,8 @@ use Rattle.std.proofs.lemmas.Bool.Decides.{nat_tests}
 use Rattle.std.specs.Int.Bits.{bit_xor}
 use Rattle.std.specs.Int.Count.{count_leading_zeros, leading_unique}
 use Rattle.std.specs.List.{common_prefix_len}
-use Rattle.trie_model.proofs.Keys.{length-bits_of_bytes}
-use Rattle.trie_model.proofs.Bits.{length-bits_of, bits_of-injective}
+use Rattle.base_model.proofs.Bits.{length-bits_of, bits_of-injective}
+use Rattle.base_model.proofs.PackedBits.{length-bits_of_bytes}
 use Rattle.bit_keys.proofs.KeyFacts.{IsKey, key_bytes, drop_past, same_default}
 use Rattle.trie_model.specs.Bits.{bits_of, bits_of_bytes, packed, common_prefix, is_prefix}
 

@@ -1,8 +1,7 @@
 use Rattle.std.proofs.Common.{◌≡◌, ℕ, suc, ◌+◌, ◌-◌, ◌*◌, ◌/◌, ◌%◌, ◌^◌, ◌<◌, ◌≤◌, Bool, false, List, [], ◌∷◌, ◌++◌, length, length-drop, length-append, get_or, take, drop, refl, sym, ap, ◌∙◌, arith, inl, inr, ◌⊎◌, mul_assoc, append_assoc}
 use Rattle.std.proofs.lemmas.Nat.{pow-add, pow_pos}
 use Rattle.std.proofs.Math.Nat.{add-mul, mul-lt-mul_of_pos_right, pow-le-pow_right, mod-eq_of_lt}
-use Rattle.trie_model.proofs.Bits.{length-bits_of, number_of-bits_of}
-use Rattle.trie_model.proofs.HashedString.{number-small}
+use Rattle.base_model.proofs.Bits.{length-bits_of, number_of-bits_of, number-small}
 use Rattle.trie_model.specs.Bits.{bits_of, number_of, packed}
 use Rattle.bit_keys.proofs.Tokens.{number-append}
 

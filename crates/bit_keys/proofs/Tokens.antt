@@ -3,8 +3,7 @@ use Rattle.std.proofs.lemmas.Nat.{pow-add, div-mul-add, mod-mul-add}
 use Rattle.std.proofs.Math.Nat.{add-mul, mul-add, min-eq_left}
 use Rattle.std.proofs.lemmas.List.{take-append-drop, take-append-le, drop-append-le, drop-take, take-take}
 use Rattle.std.proofs.lemmas.Bool.{cases_lt}
-use Rattle.trie_model.proofs.Bits.{length-bits_of, number_of-bits_of}
-use Rattle.trie_model.proofs.HashedString.{number-small}
+use Rattle.base_model.proofs.Bits.{length-bits_of, number_of-bits_of, number-small}
 use Rattle.trie_model.specs.Bits.{bits_of, number_of, bits_of_bytes, token_at}
 use Rattle.bit_keys.proofs.KeyFacts.{same_default}
 use Rattle.bit_keys.specs.Branch.{width_of}

@@ -1,10 +1,9 @@
 use Rattle.std.proofs.Common.{◌≡◌, ℕ, zero, suc, ◌+◌, ◌-◌, ◌*◌, ◌/◌, ◌%◌, ◌^◌, ◌<◌, ◌≤◌, Bool, false, List, [], ◌∷◌, ◌++◌, length, length-take, length-drop, length-append, get_or, take, drop, refl, sym, ap, ◌∙◌, arith, subst, inl, inr, append_assoc}
 use Rattle.std.proofs.Math.Nat.{min-eq_left}
 use Rattle.std.proofs.Math.Seq.{take-add, take-append-add}
-use Rattle.std.proofs.lemmas.List.{take-append-drop, take-append-le, drop-append-le, drop-drop, length-replicate}
+use Rattle.std.proofs.lemmas.List.{take-append-drop, take-append-le, drop-append-le, drop-drop, length-replicate, take_all}
 use Rattle.std.proofs.lemmas.Bool.{cases_lt}
-use Rattle.trie_model.proofs.Bits.{length-bits_of, number_of-bits_of}
-use Rattle.trie_model.proofs.Keys.{take_all}
+use Rattle.base_model.proofs.Bits.{length-bits_of, number_of-bits_of}
 use Rattle.trie_model.specs.Bits.{bits_of, number_of, bits_of_bytes, packed}
 use Rattle.bit_keys.proofs.KeyFacts.{packed-small}
 use Rattle.bit_keys.proofs.Padding.{pad, zeros, unpacked}

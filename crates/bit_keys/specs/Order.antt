@@ -4,7 +4,7 @@ use Rattle.std.proofs.Common.{ap, subst}
 use Rattle.std.specs.Ordering.{eq_by_cmp}
 use Rattle.std.specs.Cmp.{IsEquivalence, IsTotalOrder, IsPartialOrder, bool_cmp_total, both_ways, po}
 use Rattle.std.proofs.lemmas.Cmp.{lists_total}
-use Rattle.trie_model.proofs.Sound.{same_key-is, same_key-itself}
+use Rattle.trie_model.proofs.Prefixes.{same_key-is, same_key-itself}
 use Rattle.trie_model.specs.Bits.{key_cmp, same_key}
 
 -- keys are ordered in one line

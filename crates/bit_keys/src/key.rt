@@ -3,7 +3,7 @@ ghost use Rattle.std.proofs.Common.{ap};
 ghost use Rattle.std.specs.Cmp.{partial_equiv_from_equiv};
 ghost use Rattle.std.specs.Hash as fed;
 ghost use Rattle.std.specs.Ordering.{as_partial_cmp};
-ghost use Rattle.trie_model.proofs.Sound.{same_key-is};
+ghost use Rattle.trie_model.proofs.Prefixes.{same_key-is};
 ghost use Rattle.bit_keys.specs.Order.{same_key_equiv, same_key_ties, key_cmp_total, key_po};
 ghost use Rattle.std.specs.List.{common_prefix_len};
 ghost use Rattle.trie_model.specs.Bits.{bits_of, bits_of_bytes, packed, common_prefix, is_prefix, key_cmp, same_key, whole_tokens, token_at};

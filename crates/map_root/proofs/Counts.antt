@@ -3,11 +3,11 @@ use Rattle.std.proofs.Common.{◌≡◌, ℕ, zero, suc, ◌^◌, ◌≤◌, Lis
 use Rattle.std.specs.List.{flat_map}
 use Rattle.trie_model.specs.Bits.{bits_of}
 use Rattle.trie_model.specs.Ids.{node_key, below, stub_at, numbers_from}
-use Rattle.trie_model.specs.Items.{Item}
+use Rattle.trie_model.specs.Items.{Item, AreValues}
 use Rattle.trie_model.specs.Strings.{strings, strings_below, descend}
 use Rattle.trie_model.specs.Table.{items_table}
-use Rattle.trie_model.proofs.Sound.{no_stub_at}
-use Rattle.trie_model.proofs.Tables.{Plain, Plain-below, table-unfold, rows_below, no_table}
+use Rattle.trie_model.proofs.Lookups.{no_stub_at}
+use Rattle.trie_model.proofs.Tables.{AreValues-below, table-unfold, rows_below, no_table}
 use Rattle.trie_model.proofs.Unfold.{below_shrinks}
 use Rattle.trie_model.proofs.Strings.{strings_unfold, strings_none}
 
@@ -17,7 +17,7 @@ flat_count f g [] h = refl
 flat_count f g (t ∷ ts) h = let r = flat_count f g ts h in omega (arith, length-append (f t) (flat_map f ts), length-append (g t) (flat_map g ts), h t, r)
 
 -- a table has as many rows as there are strings
-pub same_count : (n w : ℕ) (is : List Item) → Plain w is → length is ≤ n → length (items_table w is) ≡ length (strings w is)
+pub same_count : (n w : ℕ) (is : List Item) → AreValues w is → length is ≤ n → length (items_table w is) ≡ length (strings w is)
 unfolding rows_below strings_below
 same_count n w [] p l = ap length (no_table w) ∙ sym (ap length (strings_none w))
 same_count zero w (i ∷ is) p l = absurd (omega arith)
@@ -26,6 +26,6 @@ same_count (suc n) w (i ∷ is) p l =
     ap length (table-unfold w i is p)
     ∙ ap suc (flat_count (λ t. items_table w (below w (k ++ bits_of w t) (i ∷ is))) (λ t. descend (strings w) (stub_at (k ++ bits_of w t) (i ∷ is)) (below w (k ++ bits_of w t) (i ∷ is))) (numbers_from 0 (2 ^ w)) (λ t.
     let s = below_shrinks w t i is p.pos in
-    same_count n w (below w (k ++ bits_of w t) (i ∷ is)) (Plain-below w (k ++ bits_of w t) (i ∷ is) p) (omega (arith, s, l))
+    same_count n w (below w (k ++ bits_of w t) (i ∷ is)) (AreValues-below w (k ++ bits_of w t) (i ∷ is) p) (omega (arith, s, l))
     ∙ ap (λ o. length (descend (strings w) o (below w (k ++ bits_of w t) (i ∷ is)))) (sym (no_stub_at (k ++ bits_of w t) (i ∷ is) p.values))))
     ∙ sym (ap length (strings_unfold w i is p.pos))

@@ -5,15 +5,15 @@ use Rattle.std.specs.List.{AllByRecursion}
 use Rattle.std.proofs.lemmas.List.{length-take-le}
 use Rattle.trie_model.specs.Bits.{IsRising, is_prefix, same_key, key_cmp, number_of}
 use Rattle.trie_model.specs.Ids.{node_key, digest_at, id}
-use Rattle.trie_model.specs.Items.{Item, Val, Stub, position, place_of}
+use Rattle.trie_model.specs.Items.{Item, Val, Stub, position, place_of, NoStubs, AreValues, places}
 use Rattle.trie_model.specs.StoredNode.{StoredNode}
 use Rattle.trie_model.specs.Table.{Row, node_id, first_id, items_table, is_some}
 use Rattle.trie_model.proofs.Children.{Placed, tok, front_small}
 use Rattle.trie_model.proofs.KeySets.{All-of}
 use Rattle.trie_model.proofs.Lists.{All-weaker, Member-append-left, Member-append-right}
-use Rattle.trie_model.proofs.Sound.{is_prefix-take, is_prefix-through, node_key-is_prefix, same_key-is, NoStubs}
-use Rattle.trie_model.proofs.Tables.{Plain, places, table-unfold, first_id-is, group_child, group_children, rows_below}
-use Rattle.trie_model.proofs.Unfold.{length-is_prefix}
+use Rattle.trie_model.proofs.Positions.{node_key-is_prefix}
+use Rattle.trie_model.proofs.Prefixes.{is_prefix-take, is_prefix-through, same_key-is, length-is_prefix}
+use Rattle.trie_model.proofs.Tables.{table-unfold, first_id-is, group_child, group_children, rows_below}
 use Rattle.map_root.specs.Way.{Unfinished, Way, child_under, parent, climb, AreNested}
 use Rattle.map_root.proofs.Tokens.{children-first, rows-first, tok-front, tok-take, take-shorter, met_at}
 
@@ -56,7 +56,7 @@ IsRising-left [] ys h = tt
 IsRising-left (x ∷ xs) ys h = (All-left (λ l. key_cmp (place_of x) l ≡ Less) xs ys h.0, IsRising-left xs ys h.1)
 
 -- the first of plain values are plain
-pub Plain-left : (w : ℕ) (xs ys : List Item) → Plain w (xs ++ ys) → Plain w xs
+pub Plain-left : (w : ℕ) (xs ys : List Item) → AreValues w (xs ++ ys) → AreValues w xs
 Plain-left w xs ys p = record {
   pos = p.pos;
   values = λ q x m. p.values q x (Member-append-left xs ys _ m);
@@ -65,7 +65,7 @@ Plain-left w xs ys p = record {
 }
 
 -- and so are those behind the first
-pub Plain-tail : (w : ℕ) (i : Item) (is : List Item) → Plain w (i ∷ is) → Plain w is
+pub Plain-tail : (w : ℕ) (i : Item) (is : List Item) → AreValues w (i ∷ is) → AreValues w is
 Plain-tail w i is p = record { pos = p.pos; values = λ q x m. p.values q x (inr m); whole = p.whole.1; rises = p.rises.1 }
 
 -- what holds of two lists holds of both, one behind the other
@@ -84,7 +84,7 @@ digest_none w k (Val l d ∷ is) pos n h = go (same_key k l) refl (digest_none w
 digest_none w k (Stub p x ∷ is) pos n h = absurd (n p x (inl refl))
 
 -- ---- the table of the node in hand
-module _ (w : ℕ) (i : Item) (g : List Item) (r : Row) (p : Plain w (i ∷ g)) (key : node_key w (i ∷ g) ≡ r.0) (node : r.1 ≡ record { digest = digest_at r.0 (i ∷ g); children = group_children w r.0 (i ∷ g) }) where
+module _ (w : ℕ) (i : Item) (g : List Item) (r : Row) (p : AreValues w (i ∷ g)) (key : node_key w (i ∷ g) ≡ r.0) (node : r.1 ≡ record { digest = digest_at r.0 (i ∷ g); children = group_children w r.0 (i ∷ g) }) where
   -- its row, and the rows below it, are the table of its values
   pub own_table : items_table w (i ∷ g) ≡ r ∷ rows_below w r.0 (i ∷ g)
   own_table =
@@ -196,12 +196,12 @@ take-itself (suc b) [] l = refl
 take-itself (suc b) (x ∷ f) l = ap (λ r. x ∷ r) (take-itself b f (omega arith))
 
 -- the open node above gets its first child and is in hand
-pub rise : (w : ℕ) (is : List Item) (r : Row) (o : Unfinished) (above : List Unfinished) (rows : List Row) → Plain w is →
+pub rise : (w : ℕ) (is : List Item) (r : Row) (o : Unfinished) (above : List Unfinished) (rows : List Row) → AreValues w is →
     Held w is (record { low = r; above = o ∷ above; rows = rows }) → Held w is (record { low = parent w r o; above = above; rows = r ∷ rows })
 rise w is r o above rows p h =
     let a = h.above in
     let m = h.nested in
-    let q : Plain w (h.i ∷ h.g) = Plain-left w (h.i ∷ h.g) h.others (subst (Plain w) h.split p) in
+    let q : AreValues w (h.i ∷ h.g) = Plain-left w (h.i ∷ h.g) h.others (subst (AreValues w) h.split p) in
     let g1 = a.0 ∷ a.1 in
     let placed = placed_both w h.i h.g r q h.key h.node o.0 m.1.0 m.0 m.1.1 o refl g1 a.6 in
     let l = length-take-le o.0 r.0 (let x = m.0 in omega (arith, x)) in
@@ -215,7 +215,7 @@ rise w is r o above rows p h =
       key = met_at w m.1.0 (take o.0 r.0) h.i (h.g ++ g1) a.0 p.pos (l ∙ m.1.1) (begun_both w h.i h.g r q h.key h.node o.0 m.1.0 m.0 m.1.1 o refl g1 a.6) (inr (Member-append-right h.g g1 a.0 (inl refl)))
           (let t = (token_low w h.i h.g r q h.key h.node o.0 m.1.0 m.0 m.1.1).0 in let u = a.6.later.0 in omega (arith, t, u));
       node =
-          ap (λ d. record { digest = d; children = child_under w o.0 r ∷ o.1 }) (sym (digest_none w (take o.0 r.0) (h.i ∷ h.g ++ g1) p.pos (Plain-left w (h.i ∷ h.g ++ g1) a.2 (subst (Plain w) split p)).values placed))
+          ap (λ d. record { digest = d; children = child_under w o.0 r ∷ o.1 }) (sym (digest_none w (take o.0 r.0) (h.i ∷ h.g ++ g1) p.pos (Plain-left w (h.i ∷ h.g ++ g1) a.2 (subst (AreValues w) split p)).values placed))
           ∙ ap (λ cs. record { digest = digest_at (take o.0 r.0) (h.i ∷ h.g ++ g1); children = cs }) (both_children w h.i h.g r q h.key h.node o.0 m.1.0 m.0 m.1.1 o refl g1 a.6);
       rows = both_rows w h.i h.g r q h.key h.node o.0 m.1.0 m.0 m.1.1 o refl g1 a.6 rows a.3 (h.rows ∙ ap (λ x. rows_below w r.0 (h.i ∷ h.g) ++ x) a.5);
       whole = (m.1.0, l ∙ m.1.1);
@@ -224,7 +224,7 @@ rise w is r o above rows p h =
     }
 
 -- climbing keeps all values held
-pub climb-held : (w least : ℕ) (is : List Item) (r : Row) (above : List Unfinished) (rows : List Row) → Plain w is →
+pub climb-held : (w least : ℕ) (is : List Item) (r : Row) (above : List Unfinished) (rows : List Row) → AreValues w is →
     Held w is (record { low = r; above = above; rows = rows }) → Held w is (climb w least r above rows)
 climb-held w least is r [] rows p h = h
 climb-held w least is r (o ∷ above) rows p h = go (nat_le least o.0) (climb-held w least is (parent w r o) above (r ∷ rows) p (rise w is r o above rows p h)) h

@@ -2,13 +2,13 @@
 use Rattle.std.proofs.Common.{◌≡◌, ◌≢◌, ℕ, ◌+◌, ◌-◌, ◌*◌, ◌/◌, ◌<◌, ◌≤◌, Bool, true, false, cond, List, [], ◌∷◌, length, get_or, take, drop, map, refl, sym, ap, ◌∙◌, arith, subst, Some, None, ◌⊎◌, inl, inr, Less}
 use Rattle.std.specs.List.{AllByRecursion}
 use Rattle.base_model.specs.Member.{Member}
-use Rattle.trie_model.proofs.Children.{Placed, take-is_prefix}
+use Rattle.trie_model.proofs.Children.{Placed}
+use Rattle.trie_model.proofs.Positions.{node_key-is_prefix}
+use Rattle.trie_model.proofs.Prefixes.{take-is_prefix, is_prefix-all, whole_step, same_key-itself, same_key-is, length-is_prefix, length_whole}
 use Rattle.trie_model.proofs.Rising.{common_prefix_ends, last_of, not_after}
-use Rattle.trie_model.proofs.Sound.{is_prefix-all, whole_step, node_key-is_prefix, same_key-itself, same_key-is, NoStubs}
-use Rattle.trie_model.proofs.Unfold.{length-is_prefix, length_whole}
 use Rattle.trie_model.specs.Bits.{is_prefix, common_prefix, whole_tokens, key_cmp, common_prefix_all, IsRising, same_key}
 use Rattle.trie_model.specs.Ids.{node_key, digest_at}
-use Rattle.trie_model.specs.Items.{Item, position}
+use Rattle.trie_model.specs.Items.{Item, position, NoStubs}
 use Rattle.std.proofs.Math.Nat.{mul-div_cancel_left}
 use Rattle.map_root.specs.declared.entry.Entry.{Entry}
 use Rattle.bit_keys.specs.declared.branch.Branch.{Branch}

@@ -5,7 +5,7 @@ use Rattle.std.proofs.lemmas.Bool.Decides.{nat_tests}
 use Rattle.std.proofs.lemmas.List.{length-take-le}
 use Rattle.trie_model.specs.Bits.{key_cmp}
 use Rattle.trie_model.specs.Table.{Row}
-use Rattle.trie_model.proofs.Sound.{is_prefix-itself}
+use Rattle.trie_model.proofs.Prefixes.{is_prefix-itself}
 use Rattle.map_root.specs.declared.entry.Entry.{Entry}
 use Rattle.map_root.specs.declared.pass.Open.{Open}
 use Rattle.map_root.specs.Way.{Unfinished, Way, child_under, parent, climb, open_at, settle, meet, lay, AreNested, IsBelow, Stands}

@@ -6,8 +6,8 @@ use Rattle.base_model.specs.Bytes.{AreBytes, bytes_cmp}
 use Rattle.trie_model.specs.Bits.{bits_of_bytes, packed, key_cmp, IsRising}
 use Rattle.trie_model.specs.Maps.{Map, entry_item, digest_entry, map_items, map_digests}
 use Rattle.std.specs.FinMap.{entries}
-use Rattle.trie_model.proofs.Bits.{cmp-bytes}
-use Rattle.trie_model.proofs.Keys.{length-bits_of_bytes, packed-bits_of_bytes}
+use Rattle.base_model.proofs.PackedBits.{length-bits_of_bytes, packed-bits_of_bytes}
+use Rattle.trie_model.proofs.KeyOrder.{cmp-bytes}
 use Rattle.bit_keys.specs.declared.branch.Branch.{Branch}
 use Rattle.bit_keys.specs.declared.branch.Branch.TheVariants.{B2, B4, B16, B256}
 use Rattle.bit_keys.specs.Branch.{width_of}

@@ -5,7 +5,8 @@ use Rattle.trie_model.specs.Ids.{id}
 use Rattle.trie_model.specs.Table.{Row, node_id, items_table}
 use Rattle.trie_model.proofs.Lists.{All-append-right}
 use Rattle.trie_model.proofs.NodeKeys.{AreTokens}
-use Rattle.trie_model.proofs.Tables.{Plain, places, no_table}
+use Rattle.trie_model.proofs.Tables.{no_table}
+use Rattle.trie_model.specs.Items.{AreValues, places}
 use Rattle.bit_keys.specs.declared.branch.Branch.{Branch}
 use Rattle.bit_keys.specs.Branch.{width_of}
 use Rattle.map_root.specs.declared.entry.Entry.{Entry}
@@ -27,7 +28,7 @@ whole_places w [] h = tt
 whole_places w (e ∷ es) h = (h.0, whole_places w es h.1)
 
 -- rising entries of whole tokens are plain values
-pub plain_entries : (b : Branch) (es : List Entry) → IsRising (keys_of es) → AreWhole (width_of b) es → Plain (width_of b) (items_of es)
+pub plain_entries : (b : Branch) (es : List Entry) → IsRising (keys_of es) → AreWhole (width_of b) es → AreValues (width_of b) (items_of es)
 plain_entries b es r h = record { pos = width_pos b; values = no_stubs es; whole = whole_places (width_of b) es h; rises = subst IsRising (keys_places es) r }
 
 -- entries behind the first ones rise

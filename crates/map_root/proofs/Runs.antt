@@ -5,11 +5,10 @@ use Rattle.std.proofs.lemmas.Bool.Decides.{nat_tests}
 use Rattle.std.proofs.lemmas.List.{drop-map, take-map}
 use Rattle.trie_model.proofs.Children.{Placed, tok, children_group, tok-rises, front_small, is_prefix-tok}
 use Rattle.trie_model.proofs.Rising.{IsRising-drop, IsRising-take}
-use Rattle.trie_model.proofs.Sound.{NoStubs}
 use Rattle.trie_model.proofs.Unfold.{below_shrinks}
 use Rattle.trie_model.specs.Bits.{bits_of, is_prefix, key_cmp, IsRising}
 use Rattle.trie_model.specs.Ids.{node_key, children, id, below}
-use Rattle.trie_model.specs.Items.{position}
+use Rattle.trie_model.specs.Items.{position, NoStubs}
 use Rattle.map_root.specs.declared.entry.Entry.{Entry}
 use Rattle.map_root.specs.Entries.{key_of, keys_of, item_of, items_of, has_token, AreWhole, AreLong}
 use Rattle.std.proofs.Common.{add-one}

@@ -6,14 +6,13 @@ use Rattle.trie_model.specs.Bits.{bits_of, is_prefix, number_of, common_prefix_a
 use Rattle.trie_model.specs.Items.{Item, Val, position}
 use Rattle.trie_model.specs.Ids.{node_key, below, numbers_from}
 use Rattle.trie_model.specs.Table.{items_table}
-use Rattle.trie_model.proofs.Bits.{length-bits_of}
+use Rattle.trie_model.proofs.Positions.{node_key-is_prefix, is_prefix-common_prefix_all}
+use Rattle.trie_model.proofs.Prefixes.{prefix_of_whole, is_prefix-all, whole_step, length-is_prefix, length_whole}
+use Rattle.base_model.proofs.Bits.{length-bits_of}
 use Rattle.trie_model.proofs.Children.{Placed, tok, is_prefix-tok}
 use Rattle.trie_model.proofs.Groups.{made_of, first_group}
 use Rattle.trie_model.proofs.Lists.{All-append-right, filter-same, flat_map-same}
-use Rattle.trie_model.proofs.NodeKeys.{prefix_of_whole}
-use Rattle.trie_model.proofs.Sound.{is_prefix-all, node_key-is_prefix, whole_step}
 use Rattle.trie_model.proofs.Tables.{group_child, group_children, rows_below, no_table}
-use Rattle.trie_model.proofs.Unfold.{is_prefix-common_prefix_all, length-is_prefix, length_whole}
 
 -- ---- token by token
 module _ {B : Type 0} (h : ℕ → List Item → List B) (none : (u : ℕ) → h u [] ≡ []) where

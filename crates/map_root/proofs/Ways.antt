@@ -7,16 +7,14 @@ use Rattle.std.proofs.lemmas.Bool.Decides.{nat_tests}
 use Rattle.std.proofs.lemmas.List.{append-nil, length-take-le}
 use Rattle.trie_model.specs.Bits.{is_prefix, key_cmp, common_prefix, whole_tokens, bits_of}
 use Rattle.trie_model.specs.Ids.{node_key, digest_at, id}
-use Rattle.trie_model.specs.Items.{Item, position}
+use Rattle.trie_model.specs.Items.{Item, position, AreValues}
 use Rattle.trie_model.specs.Table.{Row, node_id, items_table}
-use Rattle.trie_model.proofs.Bits.{length-bits_of}
-use Rattle.trie_model.proofs.Children.{Placed, tok, take-is_prefix, is_prefix-tok, front_small, tok-rises}
+use Rattle.trie_model.proofs.Prefixes.{take-is_prefix, prefix_of_whole, is_prefix-itself, is_prefix-take, is_prefix-through, is_prefix-all, same_key-itself, whole_step, is_prefix-common_prefix-left, is_prefix-common_prefix-right, length-is_prefix, length_whole, is_prefix-common_prefix}
+use Rattle.base_model.proofs.Bits.{length-bits_of}
+use Rattle.trie_model.proofs.Children.{Placed, tok, is_prefix-tok, front_small, tok-rises}
 use Rattle.trie_model.proofs.Lists.{All-weaker}
-use Rattle.trie_model.proofs.NodeKeys.{prefix_of_whole}
 use Rattle.trie_model.proofs.Rising.{not_after}
-use Rattle.trie_model.proofs.Sound.{is_prefix-itself, is_prefix-take, is_prefix-through, is_prefix-all, same_key-itself, whole_step, is_prefix-common_prefix-left, is_prefix-common_prefix-right}
-use Rattle.trie_model.proofs.Tables.{Plain, group_children, rows_below}
-use Rattle.trie_model.proofs.Unfold.{length-is_prefix, length_whole, is_prefix-common_prefix}
+use Rattle.trie_model.proofs.Tables.{group_children, rows_below}
 use Rattle.map_root.specs.declared.entry.Entry.{Entry}
 use Rattle.map_root.specs.Entries.{items_of, item_of}
 use Rattle.map_root.specs.Way.{Unfinished, Way, child_under, parent, climb, open_at, settle, meet, lay, way, AreNested, IsBelow}
@@ -130,7 +128,7 @@ fork w c m is r (o ∷ above) rows e h b = go (nat_le c o.0) refl
         new_fork w c is r (o ∷ above) rows h (token_step w o.0 c n.1.0 m n.1.1 e l, n.1, n.2)
 
 -- ---- the new key is in hand
-module _ (w : ℕ) (is : List Item) (e : Entry) (c m : ℕ) (r : Row) (o : Unfinished) (above : List Unfinished) (rows : List Row) (p : Plain w (item_of e ∷ is)) (v : Fork w is c r o above rows) (cm : c ≡ w * m) (far : c + w ≤ length r.0) (front : is_prefix (take c r.0) e.key ≡ true) (apart : length e.key ≢ c → tok w (take c r.0) e.key < tok w (take c r.0) r.0) where
+module _ (w : ℕ) (is : List Item) (e : Entry) (c m : ℕ) (r : Row) (o : Unfinished) (above : List Unfinished) (rows : List Row) (p : AreValues w (item_of e ∷ is)) (v : Fork w is c r o above rows) (cm : c ≡ w * m) (far : c + w ≤ length r.0) (front : is_prefix (take c r.0) e.key ≡ true) (apart : length e.key ≢ c → tok w (take c r.0) e.key < tok w (take c r.0) r.0) where
   -- the values that come below the fork
   all : List Item
   all = (v.i ∷ v.g) ++ v.g1
@@ -140,8 +138,8 @@ module _ (w : ℕ) (is : List Item) (e : Entry) (c m : ℕ) (r : Row) (o : Unfin
   split_all = v.split ∙ ap (λ x. v.i ∷ x) (sym (append_assoc v.g v.g1 v.others))
 
   -- the values in hand are plain
-  plain_low : Plain w (v.i ∷ v.g)
-  plain_low = Plain-left w (v.i ∷ v.g) (v.g1 ++ v.others) (subst (Plain w) v.split (Plain-tail w (item_of e) is p))
+  plain_low : AreValues w (v.i ∷ v.g)
+  plain_low = Plain-left w (v.i ∷ v.g) (v.g1 ++ v.others) (subst (AreValues w) v.split (Plain-tail w (item_of e) is p))
 
   -- the front has as many bits as are shared
   front_is : length (take c r.0) ≡ c
@@ -292,7 +290,7 @@ meeting w m n k f pos ek ef l = record {
             absurd (omega (arith, length-is_prefix (c ++ bits_of w t) c d, length-append c (bits_of w t), length-bits_of w t, pos))
 
 -- an entry in front of those of a way
-pub lay-held : (w : ℕ) (e f : Entry) (es : List Entry) (y : Way) → Plain w (items_of (e ∷ f ∷ es)) → y.low.0 ≡ f.key → Held w (items_of (f ∷ es)) y → Held w (items_of (e ∷ f ∷ es)) (lay w e y)
+pub lay-held : (w : ℕ) (e f : Entry) (es : List Entry) (y : Way) → AreValues w (items_of (e ∷ f ∷ es)) → y.low.0 ≡ f.key → Held w (items_of (f ∷ es)) y → Held w (items_of (e ∷ f ∷ es)) (lay w e y)
 lay-held w e f es y p k h =
     let q = meeting w p.whole.0.0 p.whole.1.0.0 e.key f.key p.pos p.whole.0.1 p.whole.1.0.1 p.rises.0.0 in
     let q' : Meeting w e.key y.low.0 = subst (Meeting w e.key) (sym k) q in
@@ -323,7 +321,7 @@ way-key w e [] rows = refl
 way-key w e (f ∷ es) rows = settle-key w e _ _ _ _
 
 -- the way over plain entries holds all of them
-pub way-held : (w : ℕ) (e : Entry) (es : List Entry) → Plain w (items_of (e ∷ es)) → Held w (items_of (e ∷ es)) (way w e es [])
+pub way-held : (w : ℕ) (e : Entry) (es : List Entry) → AreValues w (items_of (e ∷ es)) → Held w (items_of (e ∷ es)) (way w e es [])
 way-held w e [] p = record {
   i = item_of e;
   g = [];
@@ -347,18 +345,18 @@ pub record Closed (w : ℕ) (is : List Item) (y : Way) : Type 0 where
   pub root : node_id y.low ≡ id w is
 
 -- a way with no open node is the table
-closed : (w : ℕ) (is : List Item) (y : Way) → Plain w is → y.above ≡ [] → Held w is y → Closed w is y
+closed : (w : ℕ) (is : List Item) (y : Way) → AreValues w is → y.above ≡ [] → Held w is y → Closed w is y
 closed w is y p n h =
     let a = subst (λ above. Above w y.low.0 above h.others h.later) n h.above in
     let s : is ≡ h.i ∷ h.g = h.split ∙ ap (λ x. h.i ∷ h.g ++ x) a.0 ∙ append-nil (h.i ∷ h.g) in
-    let q = subst (Plain w) s p in
+    let q = subst (AreValues w) s p in
     record {
       table = ap (λ x. y.low ∷ x) (h.rows ∙ ap (λ x. rows_below w y.low.0 (h.i ∷ h.g) ++ x) a.1 ∙ append-nil (rows_below w y.low.0 (h.i ∷ h.g))) ∙ sym (own_table w h.i h.g y.low q h.key h.node) ∙ ap (items_table w) (sym s);
       root = own_id w h.i h.g y.low q h.key h.node ∙ ap (id w) (sym s);
     }
 
 -- and so is the way over all entries, when all nodes are closed
-pub way-closed : (w : ℕ) (e : Entry) (es : List Entry) → Plain w (items_of (e ∷ es)) → Closed w (items_of (e ∷ es)) (climb w 0 (way w e es []).low (way w e es []).above (way w e es []).rows)
+pub way-closed : (w : ℕ) (e : Entry) (es : List Entry) → AreValues w (items_of (e ∷ es)) → Closed w (items_of (e ∷ es)) (climb w 0 (way w e es []).low (way w e es []).above (way w e es []).rows)
 way-closed w e es p =
     let y = way w e es [] in
     closed w (items_of (e ∷ es)) (climb w 0 y.low y.above y.rows) p (climb_all w y.low y.above y.rows) (climb-held w 0 (items_of (e ∷ es)) y.low y.above y.rows p (way-held w e es p))

@@ -8,11 +8,12 @@ use Rattle.trie_model.specs.Laws.{HasRow, ValueChildIdsAreHashes, ChildIdsAreHas
 use Rattle.trie_model.specs.Maps.{map_items}
 use Rattle.trie_model.specs.StoredNode.{StoredChild, StoredNode}
 use Rattle.trie_model.specs.Table.{Row, node_keys, is_some, table_node, row_at, items_table, node_id, first_id}
-use Rattle.trie_model.proofs.Bits.{length-bits_of}
+use Rattle.trie_model.proofs.Prefixes.{split_prefix}
+use Rattle.base_model.proofs.Bits.{length-bits_of}
 use Rattle.trie_model.proofs.KeySets.{Member-flat-of, Member-map-in, Member-map-of, Member-numbers-of}
 use Rattle.trie_model.proofs.Lists.{Member-filter-of}
-use Rattle.trie_model.proofs.NodeKeys.{Met-whole, node_keys-below, node_keys-in, node_keys-of, split_prefix}
-use Rattle.trie_model.proofs.Tables.{Plain-below, Plain-map_items, places-below, digest-below, root_met, slot_begins, slot_length, group_child, group_children, table_node-is, table_node-below, table-unfold, first_id-is}
+use Rattle.trie_model.proofs.NodeKeys.{Met-whole, node_keys-below, node_keys-in, node_keys-of}
+use Rattle.trie_model.proofs.Tables.{AreValues-below, AreValues-map_items, places-below, digest-below, root_met, slot_begins, slot_length, group_child, group_children, table_node-is, table_node-below, table-unfold, first_id-is}
 
 -- ---- rows
 -- a row of a table is that of a node key, which is of whole tokens
@@ -52,7 +53,7 @@ group_children-Kept w k is c m =
 module _ (w n : ℕ) (s : List Bool) (all : List Item) (i : Item) (is : List Item) (v : AreValues w all) (whole : length s ≡ w * n) (slot : below w s all ≡ i ∷ is) where
   -- what lies in a slot are values too
   pub slot-AreValues : AreValues w (i ∷ is)
-  slot-AreValues = subst (AreValues w) slot (Plain-below w s all v)
+  slot-AreValues = subst (AreValues w) slot (AreValues-below w s all v)
 
   -- the root node of a slot is a row of the table
   pub slot_row : Member (items_table w all) (row_at w all (node_key w (i ∷ is)))
@@ -104,4 +105,4 @@ value_child_ids_are_hashes w is v r c m n =
     subst (λ (r : Row). HasRow w (items_table w is) r.0 c) x.3 (child-HasRow w x.2.0 x.0 is c v x.2.1 (subst (λ (r : Row). Member r.1.children c) (sym x.3) n))
 
 pub child_ids_are_hashes : ChildIdsAreHashes
-child_ids_are_hashes l w m ww h = value_child_ids_are_hashes w (map_items m) (Plain-map_items l w m ww h)
+child_ids_are_hashes l w m ww h = value_child_ids_are_hashes w (map_items m) (AreValues-map_items l w m ww h)

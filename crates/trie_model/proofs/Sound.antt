@@ -1,186 +1,25 @@
 -- Soundness by the members of item lists: where a list and a list of values alone have
 -- one ID, they agree token by token down to the leaves, or a break is found on the way.
-use Rattle.std.proofs.Common.{◌≡◌, ◌≢◌, ℕ, zero, suc, ◌+◌, ◌-◌, ◌*◌, ◌/◌, ◌^◌, ◌<◌, ◌≤◌, Bool, true, false, cond, List, [], ◌∷◌, ◌++◌, length, take, map, refl, sym, ap, ◌∙◌, arith, subst, length-append, ◌⊎◌, inl, inr, Option, Some, None}
+use Rattle.std.proofs.Common.{◌≡◌, ◌≢◌, ℕ, zero, suc, ◌+◌, ◌-◌, ◌^◌, ◌<◌, ◌≤◌, Bool, true, List, [], ◌∷◌, ◌++◌, length, refl, sym, ap, ◌∙◌, arith, subst, length-append, ◌⊎◌, inl, inr, Option, Some, None}
 use Rattle.std.specs.List.{flat_map}
 use Rattle.sha2.proofs.Facts256.{length-sha256}
 use Rattle.base_model.specs.Member.{Member}
-use Rattle.trie_model.proofs.Bits.{length-bits_of}
-use Rattle.trie_model.proofs.HashedString.{hashed_string-apart, bits_of-number_of, number-small}
-use Rattle.trie_model.proofs.Lists.{Member-flat_map, Member-filter-of, Member-filter-in, filter-filter}
-use Rattle.trie_model.proofs.Unfold.{length_whole, below_shrinks, id_unfolds, flat_same, length-is_prefix}
-use Rattle.trie_model.specs.Bits.{bits_of, number_of, is_prefix, common_prefix, common_prefix_all, same_key}
-use Rattle.trie_model.specs.Hashing.{hashed_string, zero_id, Are32}
+use Rattle.trie_model.proofs.Prefixes.{is_prefix-through, is_prefix-take, is_prefix-all, branches}
+use Rattle.base_model.proofs.Bits.{length-bits_of}
+use Rattle.trie_model.proofs.HashedString.{hashed_string-apart}
+use Rattle.trie_model.proofs.Lists.{Member-filter-of, Member-filter-in, filter-filter}
+use Rattle.trie_model.proofs.Unfold.{below_shrinks, id_unfolds}
+use Rattle.trie_model.specs.Bits.{bits_of, is_prefix}
+use Rattle.trie_model.specs.Hashing.{zero_id, Are32}
 use Rattle.trie_model.specs.Ids.{node_key, digest_at, stub_at, below, children, child_of, numbers_from, id_within, id}
-use Rattle.trie_model.specs.Items.{Item, Val, Stub, position, IsItemList}
-pub use Rattle.trie_model.specs.Items.{NoStubs}
+use Rattle.trie_model.specs.Items.{Item, Val, Stub, position, IsItemList, NoStubs}
 use Rattle.trie_model.specs.Laws.{Describes}
-use Rattle.trie_model.specs.Strings.{descend, strings_below, strings_within, strings, Break, twins, zero_first, zero_second}
+use Rattle.trie_model.specs.Strings.{strings, Break, twins, zero_first, zero_second}
 use Rattle.std.proofs.lemmas.Bool.{cases_lt}
-use Rattle.std.specs.Bool.{Decides}
-use Rattle.std.proofs.Common.{bytes_eq}
-use Rattle.std.proofs.lemmas.Slice.Eq.{bytes_eq-Decides}
-use Rattle.std.proofs.Math.Nat.{mul-le-mul_left}
 use Rattle.std.proofs.lemmas.List.{length-take-le}
-
--- ---- prefixes of keys
--- keys that test the same are one
-pub same_key-is : (a b : List Bool) → same_key a b ≡ true → a ≡ b
-same_key-is [] [] h = refl
-same_key-is (true ∷ a) (true ∷ b) h = ap (λ r. true ∷ r) (same_key-is a b h)
-same_key-is (false ∷ a) (false ∷ b) h = ap (λ r. false ∷ r) (same_key-is a b h)
-same_key-is a b h = absurd (cc)
-
--- a key tests the same as itself
-pub same_key-itself : (a : List Bool) → same_key a a ≡ true
-same_key-itself [] = refl
-same_key-itself (true ∷ a) = same_key-itself a
-same_key-itself (false ∷ a) = same_key-itself a
-
--- a key is a prefix of itself
-pub is_prefix-itself : (a : List Bool) → is_prefix a a ≡ true
-is_prefix-itself [] = refl
-is_prefix-itself (true ∷ a) = is_prefix-itself a
-is_prefix-itself (false ∷ a) = is_prefix-itself a
-
--- a prefix of a prefix is a prefix
-pub is_prefix-through : (a b c : List Bool) → is_prefix a b ≡ true → is_prefix b c ≡ true → is_prefix a c ≡ true
-is_prefix-through [] b c h k = refl
-is_prefix-through (true ∷ a) (true ∷ b) (true ∷ c) h k = is_prefix-through a b c h k
-is_prefix-through (false ∷ a) (false ∷ b) (false ∷ c) h k = is_prefix-through a b c h k
-is_prefix-through (x ∷ a) b c h k = absurd (cc)
-
--- the first bits of a key are a prefix
-pub is_prefix-take : (n : ℕ) (a : List Bool) → is_prefix (take n a) a ≡ true
-is_prefix-take zero a = refl
-is_prefix-take (suc n) [] = refl
-is_prefix-take (suc n) (true ∷ a) = is_prefix-take n a
-is_prefix-take (suc n) (false ∷ a) = is_prefix-take n a
-
--- what two keys have in common is a prefix of the first
-pub is_prefix-common_prefix-left : (a b : List Bool) → is_prefix (common_prefix a b) a ≡ true
-is_prefix-common_prefix-left [] b = refl
-is_prefix-common_prefix-left (x ∷ a) [] = refl
-is_prefix-common_prefix-left (true ∷ a) (true ∷ b) = is_prefix-common_prefix-left a b
-is_prefix-common_prefix-left (true ∷ a) (false ∷ b) = refl
-is_prefix-common_prefix-left (false ∷ a) (true ∷ b) = refl
-is_prefix-common_prefix-left (false ∷ a) (false ∷ b) = is_prefix-common_prefix-left a b
-
--- what two keys have in common is a prefix of the second
-pub is_prefix-common_prefix-right : (a b : List Bool) → is_prefix (common_prefix a b) b ≡ true
-is_prefix-common_prefix-right [] b = refl
-is_prefix-common_prefix-right (x ∷ a) [] = refl
-is_prefix-common_prefix-right (true ∷ a) (true ∷ b) = is_prefix-common_prefix-right a b
-is_prefix-common_prefix-right (true ∷ a) (false ∷ b) = refl
-is_prefix-common_prefix-right (false ∷ a) (true ∷ b) = refl
-is_prefix-common_prefix-right (false ∷ a) (false ∷ b) = is_prefix-common_prefix-right a b
-
--- a prefix that is no shorter is the key itself
-pub is_prefix-all : (a b : List Bool) → is_prefix a b ≡ true → length b ≤ length a → b ≡ a
-is_prefix-all [] [] h l = refl
-is_prefix-all [] (y ∷ b) h l = absurd (omega arith)
-is_prefix-all (true ∷ a) (true ∷ b) h l = ap (λ r. true ∷ r) (is_prefix-all a b h (omega arith))
-is_prefix-all (false ∷ a) (false ∷ b) h l = ap (λ r. false ∷ r) (is_prefix-all a b h (omega arith))
-is_prefix-all (x ∷ a) b h l = absurd (cc)
-
--- a key that is longer than its prefix by a token goes on with one
-pub branches : (w : ℕ) (k q : List Bool) → is_prefix k q ≡ true → length k + w ≤ length q → (t : ℕ) × (t < 2 ^ w) × (is_prefix (k ++ bits_of w t) q ≡ true)
-branches w [] q h l =
-    let e : length (take w q) ≡ w = length-take-le w q long_enough in
-    let f : bits_of w (number_of (take w q)) ≡ take w q = subst (λ v. bits_of v (number_of (take w q)) ≡ take w q) e (bits_of-number_of (take w q)) in
-    (number_of (take w q), subst (λ v. number_of (take w q) < 2 ^ v) e (number-small (take w q)), rw f (is_prefix-take w q))
-  where
-    long_enough : w ≤ length q
-    long_enough = omega (arith, l)
-branches w (true ∷ k) (true ∷ q) h l = branches w k q h (omega arith)
-branches w (false ∷ k) (false ∷ q) h l = branches w k q h (omega arith)
-branches w (x ∷ k) q h l = absurd (cc)
-
--- what all positions have in common is a prefix of each
-common_prefix_all-is_prefix : (w : ℕ) (is : List Item) (i : Item) → Member is i → is_prefix (common_prefix_all (map (position w) is)) (position w i) ≡ true
-common_prefix_all-is_prefix w [] i h = absurd h
-common_prefix_all-is_prefix w (j ∷ []) i (inl e) = subst (λ i. is_prefix (position w j) (position w i) ≡ true) e (is_prefix-itself (position w j))
-common_prefix_all-is_prefix w (j ∷ []) i (inr h) = absurd h
-common_prefix_all-is_prefix w (j ∷ l ∷ is) i (inl e) = subst (λ i. is_prefix (common_prefix (position w j) (common_prefix_all (map (position w) (l ∷ is)))) (position w i) ≡ true) e (is_prefix-common_prefix-left (position w j) _)
-common_prefix_all-is_prefix w (j ∷ l ∷ is) i (inr h) = let m = common_prefix_all (map (position w) (l ∷ is)) in is_prefix-through (common_prefix (position w j) m) m (position w i) (is_prefix-common_prefix-right (position w j) m) (common_prefix_all-is_prefix w (l ∷ is) i h)
-
--- the node's key is a prefix of each position
-pub node_key-is_prefix : (w : ℕ) (is : List Item) (i : Item) → Member is i → is_prefix (node_key w is) (position w i) ≡ true
-node_key-is_prefix w is i h = is_prefix-through (node_key w is) (common_prefix_all (map (position w) is)) (position w i) (is_prefix-take (w * (length (common_prefix_all (map (position w) is)) / w)) (common_prefix_all (map (position w) is))) (common_prefix_all-is_prefix w is i h)
-
--- a position consists of whole tokens
-position-whole : (w : ℕ) (is : List Item) (i : Item) → IsItemList w is → Member is i → (n : ℕ) × (length (position w i) ≡ w * n)
-position-whole w is (Val k d) v h = v.val_whole k d h
-position-whole w is (Stub p x) v h =
-    let s = v.stub_whole p x h in
-    (s.0, length-take-le (length p - w) p (omega arith) ∙ omega (arith, s.1))
-
--- a length in whole tokens is no greater than another, or smaller by a whole token
-pub whole_step : (w a b : ℕ) → w * a ≤ w * b → (w * b ≤ w * a) ⊎ (w * a + w ≤ w * b)
-whole_step w a b h = elim (cases_lt a b) [
-  | inl l ↦ let m : w * suc a ≤ w * b = mul-le-mul_left w l in inr (omega (arith, m))
-  | inr l ↦ inl (mul-le-mul_left w l)
-]
-
--- an item stands at the node or below one of its tokens
-pub stands_at : (w : ℕ) (is : List Item) (i : Item) → 0 < w → IsItemList w is → Member is i → (position w i ≡ node_key w is) ⊎ ((t : ℕ) × (t < 2 ^ w) × (is_prefix (node_key w is ++ bits_of w t) (position w i) ≡ true))
-stands_at w is i pos v h =
-    let b = node_key-is_prefix w is i h in
-    let n = position-whole w is i v h in
-    let lk = length_whole w (common_prefix_all (map (position w) is)) pos in
-    let m = length-is_prefix (node_key w is) (position w i) b in
-    elim (whole_step w (length (common_prefix_all (map (position w) is)) / w) n.0 (omega (arith, m, n.1, lk))) [
-      | inl l ↦ inl (is_prefix-all (node_key w is) (position w i) b (omega (arith, l, n.1, lk)))
-      | inr l ↦ inr (branches w (node_key w is) (position w i) b (omega (arith, l, n.1, lk)))
-    ]
-
--- ---- what the look-ups find
--- a digest that is found is that of a value in the list
-pub digest_at-of : (k : List Bool) (is : List Item) (d : List ℕ) → digest_at k is ≡ Some d → Member is (Val k d)
-digest_at-of k [] d e = absurd (cc)
-digest_at-of k (Val l c ∷ is) d e = go (same_key k l) refl (digest_at-of k is d) e
-  where
-    go : (b : Bool) → same_key k l ≡ b → (digest_at k is ≡ Some d → Member is (Val k d)) → cond b (Some c) (digest_at k is) ≡ Some d → (Val l c ≡ Val k d) ⊎ Member is (Val k d)
-    go true f ih e = let g = same_key-is k l f in inl (cc)
-    go false f ih e = inr (ih e)
-digest_at-of k (Stub p x ∷ is) d e = inr (digest_at-of k is d e)
-
--- a digest is found at the key of a value
-pub digest_at-some : (k : List Bool) (is : List Item) (d : List ℕ) → Member is (Val k d) → (c : List ℕ) × (digest_at k is ≡ Some c)
-digest_at-some k [] d h = absurd h
-digest_at-some k (Val l c ∷ is) d (inl e) = (c, ap (λ b. cond b (Some c) (digest_at k is)) (let f : l ≡ k = cc in subst (λ l. same_key k l ≡ true) (sym f) (same_key-itself k)))
-digest_at-some k (Val l c ∷ is) d (inr h) = go (same_key k l) (digest_at-some k is d h)
-  where
-    go : (b : Bool) → (c : List ℕ) × (digest_at k is ≡ Some c) → (e : List ℕ) × (cond b (Some c) (digest_at k is) ≡ Some e)
-    go true r = (c, refl)
-    go false r = r
-digest_at-some k (Stub p x ∷ is) d (inl e) = absurd (cc)
-digest_at-some k (Stub p x ∷ is) d (inr h) = digest_at-some k is d h
-
--- in an item list the digest that is found is the value's own
-digest_at-is : (w : ℕ) (k : List Bool) (is : List Item) (d : List ℕ) → IsItemList w is → Member is (Val k d) → digest_at k is ≡ Some d
-digest_at-is w k is d v h = let s = digest_at-some k is d h in s.1 ∙ ap Some (v.val_one k s.0 d (digest_at-of k is s.0 s.1) h)
-
--- an ID that is found is that of a stub in the list
-stub_at-of : (s : List Bool) (is : List Item) (x : List ℕ) → stub_at s is ≡ Some x → Member is (Stub s x)
-stub_at-of s [] x e = absurd (cc)
-stub_at-of s (Val l c ∷ is) x e = inr (stub_at-of s is x e)
-stub_at-of s (Stub p y ∷ is) x e = go (same_key s p) refl (stub_at-of s is x) e
-  where
-    go : (b : Bool) → same_key s p ≡ b → (stub_at s is ≡ Some x → Member is (Stub s x)) → cond b (Some y) (stub_at s is) ≡ Some x → (Stub p y ≡ Stub s x) ⊎ Member is (Stub s x)
-    go true f ih e = let g = same_key-is s p f in inl (cc)
-    go false f ih e = inr (ih e)
-
--- an ID is found at the slot of a stub
-stub_at-some : (s : List Bool) (is : List Item) (x : List ℕ) → Member is (Stub s x) → stub_at s is ≢ None
-stub_at-some s [] x h n = h
-stub_at-some s (Val l c ∷ is) x (inl e) n = cc
-stub_at-some s (Val l c ∷ is) x (inr h) n = stub_at-some s is x h n
-stub_at-some s (Stub p y ∷ is) x (inl e) n = let f : p ≡ s = cc in let g : cond (same_key s p) (Some y) (stub_at s is) ≡ Some y = ap (λ b. cond b (Some y) (stub_at s is)) (subst (λ p. same_key s p ≡ true) (sym f) (same_key-itself s)) in cc
-stub_at-some s (Stub p y ∷ is) x (inr h) n = go (same_key s p) (stub_at-some s is x h) n
-  where
-    go : (b : Bool) → stub_at s is ≢ None → cond b (Some y) (stub_at s is) ≢ None
-    go true m n = cc
-    go false m n = m n
+use Rattle.trie_model.proofs.Positions.{stands_at}
+use Rattle.trie_model.proofs.Lookups.{digest_at-of, digest_at-is, stub_at-of, stub_at-some, no_stub_at, NoStubs-below}
+use Rattle.trie_model.proofs.Strings.{Break-wider, bytes_same_or_not, root_string, strings_head, strings_child}
 
 -- ---- a list below a slot
 -- the items below a slot are an item list
@@ -281,58 +120,7 @@ child_at w k l is ns e h t m = child-of_children
     (h ∙ ap (λ k. flat_map (λ t. child_of (id w) t (stub_at (k ++ bits_of w t) ns) (below w (k ++ bits_of w t) ns)) (numbers_from 0 (2 ^ w))) (sym e))
     t (omega arith) (omega arith)
 
--- ---- the strings
--- the string of the root node
-root_string : ℕ → List Item → List ℕ
-root_string w is = hashed_string (node_key w is) (digest_at (node_key w is) is) (children (id w) w (node_key w is) is)
-
--- the strings of a child depend on the function of strings only at the list below its token
-descend-same : (f g : List Item → List (List ℕ)) (o : Option (List ℕ)) (is : List Item) → f is ≡ g is → descend f o is ≡ descend g o is
-descend-same f g (Some x) is e = refl
-descend-same f g None is e = e
-
--- as many steps as there are items are enough, and more change nothing
-strings_within-enough : (m n w : ℕ) (is : List Item) → 0 < w → length is ≤ m → length is ≤ n → strings_within m w is ≡ strings_within n w is
-unfolding strings_within strings_below
-strings_within-enough m n w [] pos h k = refl
-strings_within-enough zero n w (i ∷ is) pos h k = absurd (omega arith)
-strings_within-enough (suc m) zero w (i ∷ is) pos h k = absurd (omega arith)
-strings_within-enough (suc m) (suc n) w (i ∷ is) pos h k =
-    ap (λ r. hashed_string (node_key w (i ∷ is)) (digest_at (node_key w (i ∷ is)) (i ∷ is)) (children (id w) w (node_key w (i ∷ is)) (i ∷ is)) ∷ r)
-    (flat_same _ _ (numbers_from 0 (2 ^ w)) (λ t. let s = below_shrinks w t i is pos in
-    descend-same (strings_within m w) (strings_within n w) (stub_at (node_key w (i ∷ is) ++ bits_of w t) (i ∷ is)) (below w (node_key w (i ∷ is) ++ bits_of w t) (i ∷ is))
-    (strings_within-enough m n w (below w (node_key w (i ∷ is) ++ bits_of w t) (i ∷ is)) pos (omega arith) (omega arith))))
-
--- the root node's string is hashed
-strings_head : (w : ℕ) (i : Item) (is : List Item) → Member (strings w (i ∷ is)) (root_string w (i ∷ is))
-unfolding strings strings_within root_string
-strings_head w i is = inl refl
-
--- what is hashed for the list below a token is hashed for the whole list, where no stub stands in that slot
-strings_child : (w t : ℕ) (i : Item) (is : List Item) → 0 < w → t < 2 ^ w → stub_at (node_key w (i ∷ is) ++ bits_of w t) (i ∷ is) ≡ None →
-    (a : List ℕ) → Member (strings w (below w (node_key w (i ∷ is) ++ bits_of w t) (i ∷ is))) a → Member (strings w (i ∷ is)) a
-unfolding strings strings_within strings_below
-strings_child w t i is pos l e a h =
-    let s = below_shrinks w t i is pos in
-    inr (Member-flat_map (λ t. descend (strings_within (length is) w) (stub_at (node_key w (i ∷ is) ++ bits_of w t) (i ∷ is)) (below w (node_key w (i ∷ is) ++ bits_of w t) (i ∷ is))) 0 (2 ^ w) t a (omega arith) (omega arith)
-    (subst (λ o. Member (descend (strings_within (length is) w) o (below w (node_key w (i ∷ is) ++ bits_of w t) (i ∷ is))) a) (sym e)
-    (subst (λ r. Member r a) (strings_within-enough (length (below w (node_key w (i ∷ is) ++ bits_of w t) (i ∷ is))) (length is) w (below w (node_key w (i ∷ is) ++ bits_of w t) (i ∷ is)) pos (omega arith) (omega arith)) h)))
-
--- a break by some strings is one by more
-pub Break-wider : (A B C D : List (List ℕ)) → ((a : List ℕ) → Member A a → Member C a) → ((a : List ℕ) → Member B a → Member D a) → Break A B → Break C D
-Break-wider A B C D f g (twins a b p q n e) = twins a b (f a p) (g b q) n e
-Break-wider A B C D f g (zero_first a p e) = zero_first a (f a p) e
-Break-wider A B C D f g (zero_second b q e) = zero_second b (g b q) e
-
 -- ---- what a token says
--- in a list of values alone no stub is found
-pub no_stub_at : (s : List Bool) (ns : List Item) → NoStubs ns → stub_at s ns ≡ None
-no_stub_at s ns h = go (stub_at s ns) refl
-  where
-    go : (o : Option (List ℕ)) → stub_at s ns ≡ o → stub_at s ns ≡ None
-    go None e = e
-    go (Some x) e = absurd (h s x (stub_at-of s ns x e))
-
 -- what the same child at a token means for a list (o: the ID of its stub in the slot, b: its items below it) and
 -- a list of values alone (c: its items below the slot): the stub has their ID, or both lists below have one ID
 data ChildCase (w : ℕ) (o : Option (List ℕ)) (b c : List Item) : Type 0 where
@@ -430,14 +218,6 @@ module _ (w : ℕ) (is ns : List Item) (pos : 0 < w) (v : IsItemList w is) (u : 
   describes : Describes w is ns
   describes = record { val = describes_val; only = describes_only; stub = describes_stub }
 
--- two byte strings are one or differ
-pub bytes_same_or_not : (a b : List ℕ) → (a ≡ b) ⊎ (a ≢ b)
-bytes_same_or_not a b = go (bytes_eq a b) (bytes_eq-Decides a b)
-  where
-    go : (r : Bool) → Decides r (a ≡ b) → (a ≡ b) ⊎ (a ≢ b)
-    go true h = inl (h.0 refl)
-    go false h = inr (λ e. let f = h.1 e in cc)
-
 -- ---- the induction
 -- the ID of the empty list
 id-nil : (w : ℕ) → id w [] ≡ zero_id
@@ -467,10 +247,6 @@ token_step w t i is j ns pos m none s es keys e ih = go (child_case w t (stub_at
     go : ChildCase w (stub_at s (i ∷ is)) (below w s (i ∷ is)) (below w s (j ∷ ns)) → Break (strings w (i ∷ is)) (strings w (j ∷ ns)) ⊎ Token w (i ∷ is) (j ∷ ns) s
     go (at_stub x o f n) = inr (stubbed x (stub_at-of s (i ∷ is) x o) n f)
     go (at_list o f) = elim (ih f) [ inl b ↦ inl (back o b) | inr a ↦ inr (described o a) ]
-
--- a list of values alone has values alone below a slot
-NoStubs-below : (w : ℕ) (s : List Bool) (ns : List Item) → NoStubs ns → NoStubs (below w s ns)
-NoStubs-below w s ns h p x m = h p x (Member-filter-of (λ j. is_prefix s (position w j)) ns (Stub p x) m).0
 
 -- soundness for lists of at most n items: a difference in the root nodes' strings is a break, and else the tokens say it
 sound_within : (n w : ℕ) (is ns : List Item) → 0 < w → length is ≤ n → IsItemList w is → IsItemList w ns → NoStubs ns → id w is ≡ id w ns → Break (strings w is) (strings w ns) ⊎ Describes w is ns

@@ -15,14 +15,15 @@ use Rattle.trie_model.specs.Maps.{Map, Limits, IsMap, IsPair, map_items, entry_i
 use Rattle.trie_model.specs.StoredNode.{StoredChild, IsStoredChild, AreRising, IsStored, rest_limit}
 use Rattle.trie_model.specs.Table.{Row, table_node, items_table}
 use Rattle.trie_model.proofs.Digests.{length-value_digest}
-use Rattle.trie_model.proofs.Keys.{length-bits_of_bytes}
+use Rattle.trie_model.proofs.Prefixes.{length-is_prefix}
+use Rattle.trie_model.proofs.Lookups.{digest_at-of}
+use Rattle.base_model.proofs.PackedBits.{length-bits_of_bytes}
 use Rattle.trie_model.proofs.KeySets.{All-of, Member-map-of}
 use Rattle.trie_model.proofs.Lists.{All-member, Member-filter-of}
 use Rattle.trie_model.proofs.NodeKeys.{Met-whole}
 use Rattle.trie_model.proofs.Slots.{row_of, Kept, group_children-Kept, slot-AreValues}
-use Rattle.trie_model.proofs.Sound.{digest_at-of}
-use Rattle.trie_model.proofs.Tables.{Plain-map_items, group_child, group_children, slot_length, table_node-is, root_met, root_begins}
-use Rattle.trie_model.proofs.Unfold.{id_unfolds, length-is_prefix}
+use Rattle.trie_model.proofs.Tables.{AreValues-map_items, group_child, group_children, slot_length, table_node-is, root_met, root_begins}
+use Rattle.trie_model.proofs.Unfold.{id_unfolds}
 
 -- the indices of children rise
 groups_rise : (w : ℕ) (k : List Bool) (is : List Item) (low a m : ℕ) → low ≤ a → AreRising low (flat_map (λ t. group_child w k t (below w (k ++ bits_of w t) is)) (numbers_from a m))
@@ -97,4 +98,4 @@ map_items-AreShort l m h k d n =
     (omega (arith, sym (ap length a), length-bits_of_bytes r.0.0, pair.key_short), subst (λ d. length d ≤ 32) b (length-value_digest r.0.1))
 
 pub rows_are_stored : RowsAreStored
-rows_are_stored l w m ww h = value_rows_are_stored l w (map_items m) (Plain-map_items l w m ww h) (map_items-AreShort l m h)
+rows_are_stored l w m ww h = value_rows_are_stored l w (map_items m) (AreValues-map_items l w m ww h) (map_items-AreShort l m h)

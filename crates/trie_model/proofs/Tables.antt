@@ -6,24 +6,26 @@ use Rattle.sha2.specs.Sha256.{sha256}
 use Rattle.base_model.specs.Member.{Member}
 use Rattle.trie_model.specs.Bits.{bits_of, is_prefix, common, whole_tokens, same_key, IsRising}
 use Rattle.trie_model.specs.Hashing.{hashed_string}
-use Rattle.trie_model.specs.Items.{Item, Val, Stub, position, place_of}
+use Rattle.trie_model.specs.Items.{Item, Val, Stub, position, place_of, NoStubs}
 use Rattle.trie_model.specs.Ids.{node_key, digest_at, stub_at, below, numbers_from, children, child_of, id, id_within}
 use Rattle.std.specs.FinMap.{entries}
 use Rattle.trie_model.specs.Bits.{key_cmp, IsWidth}
 use Rattle.trie_model.specs.Items.{IsWholeItem, Follows, IsOrdered}
-pub use Rattle.trie_model.specs.Items.{places, AreValues as Plain}
+use Rattle.trie_model.specs.Items.{places, AreValues}
 use Rattle.trie_model.specs.Laws.{TableRoot}
-use Rattle.trie_model.specs.Maps.{Map, Limits, IsMap, map_items, entry_item}
+use Rattle.trie_model.specs.Maps.{Map, Limits, IsMap, map_items}
 use Rattle.trie_model.specs.StoredNode.{StoredChild}
 use Rattle.trie_model.specs.Table.{Row, node_keys, shortest, child_key, is_some, kept_child, table_node, row_at, items_table, hashed_child, first_id}
-use Rattle.trie_model.proofs.Bits.{length-bits_of}
+use Rattle.trie_model.proofs.Lookups.{no_stub_at, NoStubs-below}
+use Rattle.trie_model.proofs.Positions.{node_key-is_prefix}
+use Rattle.trie_model.proofs.Prefixes.{prefix_of_common, is_prefix-through, same_key-is, is_prefix-append}
+use Rattle.base_model.proofs.Bits.{length-bits_of}
 use Rattle.trie_model.proofs.KeySets.{Member-map-of}
 use Rattle.trie_model.proofs.Lists.{Member-filter-of, filter-filter}
-use Rattle.trie_model.proofs.NodeKeys.{AreTokens, AreTokens-filter, Met, Met-whole, node_keys-of, node_keys-below, node_keys-unfold, no_node_keys, shortest_is, keys_below, prefix_of_common}
+use Rattle.trie_model.proofs.NodeKeys.{AreTokens, AreTokens-filter, Met, Met-whole, node_keys-of, node_keys-below, node_keys-unfold, no_node_keys, shortest_is, keys_below}
 use Rattle.trie_model.proofs.KeySets.{IsRising-filter}
 use Rattle.trie_model.proofs.Rising.{common_prefix_ends, last_of}
-use Rattle.trie_model.proofs.Valid.{map_items-IsValid}
-use Rattle.trie_model.proofs.Sound.{is_prefix-through, same_key-is, node_key-is_prefix, NoStubs, no_stub_at}
+use Rattle.trie_model.proofs.Valid.{map_items-IsValid, no_stubs}
 use Rattle.trie_model.proofs.Unfold.{flat_same, id_unfolds}
 
 -- ---- the keys of values
@@ -43,13 +45,9 @@ places-below w s (Val k d ∷ is) h = go (is_prefix s k) (places-below w s is (�
     go false e = e
 places-below w s (Stub p x ∷ is) h = absurd (h p x (inl refl))
 
--- there is no stub below a slot where there is none
-pub NoStubs-below : (w : ℕ) (s : List Bool) (is : List Item) → NoStubs is → NoStubs (below w s is)
-NoStubs-below w s is h p x m = h p x (Member-filter-of (λ i. is_prefix s (position w i)) is (Stub p x) m).0
-
 -- what lies below a slot of plain values is plain
-pub Plain-below : (w : ℕ) (s : List Bool) (is : List Item) → Plain w is → Plain w (below w s is)
-Plain-below w s is p = record {
+pub AreValues-below : (w : ℕ) (s : List Bool) (is : List Item) → AreValues w is → AreValues w (below w s is)
+AreValues-below w s is p = record {
   pos = p.pos;
   values = NoStubs-below w s is p.values;
   whole = subst (AreTokens w) (sym (places-below w s is p.values)) (AreTokens-filter w (is_prefix s) (places is) p.whole);
@@ -83,7 +81,7 @@ last_in k [] = inl refl
 last_in k (l ∷ ks) = inr (last_in l ks)
 
 -- the root node's key is the common run of the first and the last key
-pub root_met : (w : ℕ) (i : Item) (is : List Item) → Plain w (i ∷ is) → Met w (places (i ∷ is)) (node_key w (i ∷ is))
+pub root_met : (w : ℕ) (i : Item) (is : List Item) → AreValues w (i ∷ is) → Met w (places (i ∷ is)) (node_key w (i ∷ is))
 root_met w i is p = record {
   a = place_of i;
   b = last_of (place_of i) (places is);
@@ -109,11 +107,11 @@ unfoldable pub group_children : ℕ → List Bool → List Item → List StoredC
 group_children w k is = flat_map (λ t. group_child w k t (below w (k ++ bits_of w t) is)) (numbers_from 0 (2 ^ w))
 
 -- the child in a slot has the key of the node of what lies there
-child_key-is : (w n : ℕ) (s : List Bool) (is : List Item) → Plain w is → length s ≡ w * n → child_key w (places is) s ≡ shortest (node_keys w (places (below w s is)))
+child_key-is : (w n : ℕ) (s : List Bool) (is : List Item) → AreValues w is → length s ≡ w * n → child_key w (places is) s ≡ shortest (node_keys w (places (below w s is)))
 child_key-is w n s is p e = ap shortest (node_keys-below w n s (places is) p.pos e p.whole ∙ ap (node_keys w) (sym (places-below w s is p.values)))
 
 -- it is the shortest node key
-pub root_shortest : (w : ℕ) (i : Item) (is : List Item) → Plain w (i ∷ is) → shortest (node_keys w (places (i ∷ is))) ≡ Some (node_key w (i ∷ is))
+pub root_shortest : (w : ℕ) (i : Item) (is : List Item) → AreValues w (i ∷ is) → shortest (node_keys w (places (i ∷ is))) ≡ Some (node_key w (i ∷ is))
 root_shortest w i is p = shortest_is w (node_key w (i ∷ is)) (places (i ∷ is)) p.pos p.whole (root_met w i is p) (root_begins w (i ∷ is) p.values)
 
 -- what a list below a slot begins with
@@ -121,7 +119,7 @@ below-begins : (w : ℕ) (s : List Bool) (is : List Item) (i : Item) → Member 
 below-begins w s is i m = (Member-filter-of (λ i. is_prefix s (position w i)) is i m).1
 
 -- the slot begins the key of the node of what lies there
-pub slot_begins : (w n : ℕ) (s : List Bool) (is : List Item) (i : Item) (gs : List Item) → Plain w (i ∷ gs) → length s ≡ w * n → below w s is ≡ i ∷ gs → is_prefix s (node_key w (i ∷ gs)) ≡ true
+pub slot_begins : (w n : ℕ) (s : List Bool) (is : List Item) (i : Item) (gs : List Item) → AreValues w (i ∷ gs) → length s ≡ w * n → below w s is ≡ i ∷ gs → is_prefix s (node_key w (i ∷ gs)) ≡ true
 slot_begins w n s is i gs p e b =
     let r = root_met w i gs p in
     let a = Member-map-of place_of (i ∷ gs) r.a r.in_a in
@@ -134,10 +132,10 @@ slot_begins w n s is i gs p e b =
         subst (λ k. is_prefix s k ≡ true) q.2 (below-begins w s is q.0 (subst (λ l. Member l q.0) (sym b) q.1))
 
 -- so what a node keeps of a child depends on what lies in its slot alone
-kept-is : (w n t : ℕ) (k s : List Bool) (is : List Item) → Plain w is → length s ≡ w * n → kept_child w (length k) t s (child_key w (places is) s) is ≡ group_child w k t (below w s is)
-kept-is w n t k s is p e = ap (λ o. kept_child w (length k) t s o is) (child_key-is w n s is p e) ∙ go (below w s is) refl (Plain-below w s is p)
+kept-is : (w n t : ℕ) (k s : List Bool) (is : List Item) → AreValues w is → length s ≡ w * n → kept_child w (length k) t s (child_key w (places is) s) is ≡ group_child w k t (below w s is)
+kept-is w n t k s is p e = ap (λ o. kept_child w (length k) t s o is) (child_key-is w n s is p e) ∙ go (below w s is) refl (AreValues-below w s is p)
   where
-    go : (gs : List Item) → below w s is ≡ gs → Plain w gs → kept_child w (length k) t s (shortest (node_keys w (places gs))) is ≡ group_child w k t gs
+    go : (gs : List Item) → below w s is ≡ gs → AreValues w gs → kept_child w (length k) t s (shortest (node_keys w (places gs))) is ≡ group_child w k t gs
     go [] b q = ap (λ ks. kept_child w (length k) t s (shortest ks) is) (no_node_keys w)
     go (i ∷ gs) b q =
         let c = node_key w (i ∷ gs) in
@@ -151,23 +149,16 @@ pub slot_length : (w n t : ℕ) (k : List Bool) → length k ≡ w * n → lengt
 slot_length w n t k e = length-append k (bits_of w t) ∙ omega (arith, e, length-bits_of w t)
 
 -- a node of the table, group by group
-pub table_node-is : (w n : ℕ) (k : List Bool) (is : List Item) → Plain w is → length k ≡ w * n → table_node w is k ≡ record { digest = digest_at k is; children = group_children w k is }
+pub table_node-is : (w n : ℕ) (k : List Bool) (is : List Item) → AreValues w is → length k ≡ w * n → table_node w is k ≡ record { digest = digest_at k is; children = group_children w k is }
 unfolding table_node group_children
 table_node-is w n k is p e = ap (λ cs. record { digest = digest_at k is; children = cs })
     (flat_same _ _ (numbers_from 0 (2 ^ w)) (λ t. kept-is w (suc n) t k (k ++ bits_of w t) is p (slot_length w n t k e)))
 
--- what begins a key begins all that goes on from it
-pub is_prefix-append : (p k q : List Bool) → is_prefix p k ≡ true → is_prefix p (k ++ q) ≡ true
-is_prefix-append [] k q h = refl
-is_prefix-append (true ∷ p) (true ∷ k) q h = is_prefix-append p k q h
-is_prefix-append (false ∷ p) (false ∷ k) q h = is_prefix-append p k q h
-is_prefix-append (x ∷ p) k q h = absurd (cc)
-
 -- a node is that of what lies below any slot in which its key lies
-pub table_node-below : (w n : ℕ) (p k : List Bool) (is : List Item) → Plain w is → length k ≡ w * n → is_prefix p k ≡ true → table_node w (below w p is) k ≡ table_node w is k
+pub table_node-below : (w n : ℕ) (p k : List Bool) (is : List Item) → AreValues w is → length k ≡ w * n → is_prefix p k ≡ true → table_node w (below w p is) k ≡ table_node w is k
 unfolding group_children
 table_node-below w n p k is h e f =
-    table_node-is w n k (below w p is) (Plain-below w p is h) e
+    table_node-is w n k (below w p is) (AreValues-below w p is h) e
     ∙ ap (λ d. record { digest = d; children = group_children w k (below w p is) }) (digest-below w p k is h.values f)
     ∙ ap (λ cs. record { digest = digest_at k is; children = cs }) (flat_same _ _ (numbers_from 0 (2 ^ w)) (λ t. ap (group_child w k t) (below-below w p (k ++ bits_of w t) is (is_prefix-append p k (bits_of w t) f))))
     ∙ sym (table_node-is w n k is h e)
@@ -193,7 +184,7 @@ unfolding items_table
 no_table w = ap (map (row_at w [])) (no_node_keys w)
 
 -- the root node comes first, and then the rows of each group
-pub table-unfold : (w : ℕ) (i : Item) (is : List Item) → Plain w (i ∷ is) →
+pub table-unfold : (w : ℕ) (i : Item) (is : List Item) → AreValues w (i ∷ is) →
     items_table w (i ∷ is) ≡ (node_key w (i ∷ is), record { digest = digest_at (node_key w (i ∷ is)) (i ∷ is); children = group_children w (node_key w (i ∷ is)) (i ∷ is) }) ∷ rows_below w (node_key w (i ∷ is)) (i ∷ is)
 unfolding items_table rows_below
 table-unfold w i is p =
@@ -207,11 +198,11 @@ table-unfold w i is p =
     ∙ flat_same _ _ (numbers_from 0 (2 ^ w)) (λ t. group w (k ++ bits_of w t) (i ∷ is) p (suc whole.0) (slot_length w whole.0 t k whole.1)))
   where
     -- the rows of the node keys below a slot
-    group : (w : ℕ) (s : List Bool) (is : List Item) → Plain w is → (n : ℕ) → length s ≡ w * n → map (row_at w is) (node_keys w (keys_below s (places is))) ≡ map (row_at w (below w s is)) (node_keys w (places (below w s is)))
+    group : (w : ℕ) (s : List Bool) (is : List Item) → AreValues w is → (n : ℕ) → length s ≡ w * n → map (row_at w is) (node_keys w (keys_below s (places is))) ≡ map (row_at w (below w s is)) (node_keys w (places (below w s is)))
     group w s is p n e =
         ap (λ ks. map (row_at w is) (node_keys w ks)) (sym (places-below w s is p.values))
         ∙ map_same _ _ (node_keys w (places (below w s is))) (λ c m.
-        let q = Plain-below w s is p in
+        let q = AreValues-below w s is p in
         let l = Met-whole w (places (below w s is)) c p.pos (node_keys-of w (places (below w s is)) c p.pos q.whole m) in
         let f = Member-filter-of (is_prefix s) (node_keys w (places is)) c (subst (λ l. Member l c) (ap (node_keys w) (places-below w s is p.values) ∙ sym (node_keys-below w n s (places is) p.pos e p.whole)) m) in
         ap (λ d. (c, d)) (sym (table_node-below w l.0 s c is p l.1 f.1)))
@@ -230,7 +221,7 @@ hashed_children w k is h =
     ∙ flat_same _ _ (numbers_from 0 (2 ^ w)) (λ t. hashed-group w t k (stub_at (k ++ bits_of w t) is) (below w (k ++ bits_of w t) is) (no_stub_at (k ++ bits_of w t) is h))
 
 -- the ID of the first node is that of the values
-pub first_id-is : (w : ℕ) (is : List Item) → Plain w is → first_id (items_table w is) ≡ id w is
+pub first_id-is : (w : ℕ) (is : List Item) → AreValues w is → first_id (items_table w is) ≡ id w is
 unfolding id id_within
 first_id-is w [] p = ap first_id (no_table w)
 first_id-is w (i ∷ is) p =
@@ -240,12 +231,6 @@ first_id-is w (i ∷ is) p =
     ∙ sym (id_unfolds w i is p.pos)
 
 -- ---- maps
--- the items of entries are values
-no_stubs_of : (es : List (List ℕ × List ℕ)) → NoStubs (map entry_item es)
-no_stubs_of [] p x m = m
-no_stubs_of (e ∷ es) p x (inl m) = cc
-no_stubs_of (e ∷ es) p x (inr m) = no_stubs_of es p x m
-
 -- the keys of whole items are of whole tokens
 whole_places : (w : ℕ) (is : List Item) → NoStubs is → AllByRecursion (IsWholeItem w) is → AreTokens w (places is)
 whole_places w [] h v = tt
@@ -262,11 +247,11 @@ rising_places (i ∷ is) o = (above i is o.0, rising_places is o.1)
     above i (j ∷ is) f = (f.0.greater, above i is f.1)
 
 -- the items of a map are values with rising keys of whole tokens
-pub Plain-map_items : (l : Limits) (w : ℕ) (m : Map) → IsWidth w → IsMap l m → Plain w (map_items m)
-Plain-map_items l w m ww h =
+pub AreValues-map_items : (l : Limits) (w : ℕ) (m : Map) → IsWidth w → IsMap l m → AreValues w (map_items m)
+AreValues-map_items l w m ww h =
     let v = map_items-IsValid l w m ww h in
-    record { pos = ww.0; values = no_stubs_of (entries m); whole = whole_places w (map_items m) (no_stubs_of (entries m)) v.whole; rises = rising_places (map_items m) v.ordered }
+    record { pos = ww.0; values = no_stubs (entries m); whole = whole_places w (map_items m) (no_stubs (entries m)) v.whole; rises = rising_places (map_items m) v.ordered }
 
 -- the root of a map is the ID of the first node of its table
 pub table_root : TableRoot
-table_root l w m ww h = first_id-is w (map_items m) (Plain-map_items l w m ww h)
+table_root l w m ww h = first_id-is w (map_items m) (AreValues-map_items l w m ww h)

@@ -3,7 +3,7 @@ use Rattle.std.specs.Option.{option_copied}
 use Rattle.std.proofs.lemmas.List.Sums.{prefix_len-le-length}
 use Rattle.std.proofs.lemmas.Result.{IfOk-weaker, on_ok_weaker}
 use Rattle.trie_model.specs.Ids.{node_key, digest_at}
-use Rattle.trie_model.proofs.Keys.{take_all}
+use Rattle.std.proofs.lemmas.List.{take_all}
 use Rattle.bit_keys.specs.Branch.{width_of}
 use Rattle.trie_items.specs.Children.{children_of}
 use Rattle.map_root.specs.Entries.{items_of, has_token}
