@@ -10,7 +10,7 @@ use Rattle.trie_model.proofs.HashedString.{hashed_string-apart}
 use Rattle.trie_model.proofs.Lists.{Member-filter-of, Member-filter-in, filter-filter}
 use Rattle.trie_model.proofs.Unfold.{below_shrinks, id_unfolds}
 use Rattle.trie_model.specs.Bits.{bits_of, is_prefix}
-use Rattle.trie_model.specs.Hashing.{zero_id, Are32}
+use Rattle.trie_model.specs.Hashing.{hash_length, zero_id, Are32}
 use Rattle.trie_model.specs.Ids.{node_key, digest_at, stub_at, below, children, child_of, numbers_from, id_within, id}
 use Rattle.trie_model.specs.Items.{Item, Val, Stub, position, IsItemList, NoStubs}
 use Rattle.trie_model.specs.Laws.{Describes}
@@ -83,7 +83,7 @@ child-of_children F G a (suc n) p q e t l m = go (λ h k. child-of_children F G 
 
 -- ---- IDs have 32 bytes
 -- the ID of a list that is not empty has 32 bytes
-id-32 : (w : ℕ) (i : Item) (is : List Item) → 0 < w → length (id w (i ∷ is)) ≡ 32
+id-32 : (w : ℕ) (i : Item) (is : List Item) → 0 < w → length (id w (i ∷ is)) ≡ hash_length
 id-32 w i is pos = ap length (id_unfolds w i is pos) ∙ length-sha256 _
 
 -- children with IDs of 32 bytes, end to end
@@ -97,7 +97,7 @@ Are32-flat_map F [] h = tt
 Are32-flat_map F (t ∷ ts) h = Are32-append (F t) (flat_map F ts) (h t) (Are32-flat_map F ts h)
 
 -- the child of a token has an ID of 32 bytes, where each stub has one
-child-32 : (w t : ℕ) (o : Option (List ℕ)) (is : List Item) → 0 < w → ((x : List ℕ) → o ≡ Some x → length x ≡ 32) → Are32 (child_of (id w) t o is)
+child-32 : (w t : ℕ) (o : Option (List ℕ)) (is : List Item) → 0 < w → ((x : List ℕ) → o ≡ Some x → length x ≡ hash_length) → Are32 (child_of (id w) t o is)
 child-32 w t (Some x) is pos h = (h x refl, tt)
 child-32 w t None [] pos h = tt
 child-32 w t None (i ∷ is) pos h = (id-32 w i is pos, tt)

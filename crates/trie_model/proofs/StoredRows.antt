@@ -7,7 +7,7 @@ use Rattle.std.proofs.Math.Nat.{mul-mod_right, mul-sub}
 use Rattle.sha2.proofs.Facts256.{length-sha256}
 use Rattle.base_model.specs.Member.{Member}
 use Rattle.trie_model.specs.Bits.{bits_of, bits_of_bytes}
-use Rattle.trie_model.specs.Hashing.{value_digest}
+use Rattle.trie_model.specs.Hashing.{hash_length, value_digest}
 use Rattle.trie_model.specs.Ids.{digest_at, below, node_key, numbers_from}
 use Rattle.trie_model.specs.Items.{Item, Val, Stub, place_of, places, AreValues}
 use Rattle.trie_model.specs.Laws.{AreShort, ValueRowsAreStored, RowsAreStored}
@@ -78,9 +78,9 @@ module _ (l : Limits) (w n : ℕ) (k : List Bool) (is : List Item) (v : AreValue
     rising = group_children-AreRising w k is;
   })
     where
-      few : (o : Option (List ℕ)) → digest_at k is ≡ o → IfSome (digest_at k is) (λ d. length d ≤ 32)
-      few None f = subst (λ o. IfSome o (λ d. length d ≤ 32)) (sym f) tt
-      few (Some d) f = subst (λ o. IfSome o (λ d. length d ≤ 32)) (sym f) (short k d (digest_at-of k is d f)).1
+      few : (o : Option (List ℕ)) → digest_at k is ≡ o → IfSome (digest_at k is) (λ d. length d ≤ hash_length)
+      few None f = subst (λ o. IfSome o (λ d. length d ≤ hash_length)) (sym f) tt
+      few (Some d) f = subst (λ o. IfSome o (λ d. length d ≤ hash_length)) (sym f) (short k d (digest_at-of k is d f)).1
 
 -- each row of the table of values
 pub value_rows_are_stored : ValueRowsAreStored
@@ -95,7 +95,7 @@ map_items-AreShort l m h k d n =
     let pair : IsPair l r.0 = All-member (IsPair l) (entries m) r.0 h r.1 in
     let a : bits_of_bytes r.0.0 ≡ k = cc in
     let b : value_digest r.0.1 ≡ d = cc in
-    (omega (arith, sym (ap length a), length-bits_of_bytes r.0.0, pair.key_short), subst (λ d. length d ≤ 32) b (length-value_digest r.0.1))
+    (omega (arith, sym (ap length a), length-bits_of_bytes r.0.0, pair.key_short), subst (λ d. length d ≤ hash_length) b (length-value_digest r.0.1))
 
 pub rows_are_stored : RowsAreStored
 rows_are_stored l w m ww h = value_rows_are_stored l w (map_items m) (AreValues-map_items l w m ww h) (map_items-AreShort l m h)
