@@ -1,4 +1,4 @@
-//! Words for bytes and the outside: byte strings, uvarint, membership, faults and streams.
+//! Words for bytes and the outside: byte strings, bits, uvarint, fields, membership, faults and streams.
 //!
 //! It stands on `std` alone and holds no code: each function is empty, and its contract is a law
 //! of the definitions in `specs/`. Nothing here fails, and nothing here takes memory.
