@@ -101,7 +101,7 @@ fn keys_by_bytes_are_keys_by_bits(rt: HostRuntime) -> Result<(), Fail> {
 }
 
 #[test]
-fn tokens_count_from_the_highest_bit(rt: HostRuntime) -> Result<(), Fail> {
+fn tokens_count_from_the_highest_bit_at_their_factor(rt: HostRuntime) -> Result<(), Fail> {
     let key = Key::from_bytes(rt.alloc(), &[0x1b, 0xe4])?;
     for (i, want) in [
         (0, 0),
@@ -120,6 +120,8 @@ fn tokens_count_from_the_highest_bit(rt: HostRuntime) -> Result<(), Fail> {
         assert!(rt; 4 * (i + 1) <= key.bits());
         assert_eq!(rt; key.token(Branch::B16, i), want);
     }
+    assert!(rt; Branch::from_factor(16) == Some(Branch::B16));
+    assert!(rt; Branch::from_factor(8).is_none());
     Ok(())
 }
 
@@ -128,21 +130,6 @@ fn cut(alloc: Global, bits: u64) -> Result<Vec<u8>, NoMemory> {
     let key = Key::from_bytes(alloc, &[0x12, 0x34])?;
     let rest = key.after(alloc, bits.min(key.bits()))?;
     Ok(Vec::from_slice(alloc, rest.bytes())?)
-}
-
-#[test]
-fn a_cut_moves_the_bits_to_the_front(rt: HostRuntime) -> Result<(), Fail> {
-    let alloc = rt.alloc();
-    for (bits, want) in [
-        (0, [0x12, 0x34].as_slice()),
-        (4, [0x23, 0x40].as_slice()),
-        (5, [0x46, 0x80].as_slice()),
-        (8, [0x34].as_slice()),
-        (16, [].as_slice()),
-    ] {
-        assert_eq!(rt; cut(alloc, bits)?.as_slice(), want);
-    }
-    Ok(())
 }
 
 // The bytes of a key of parts with a token behind it, where the parts make a key.
@@ -160,20 +147,6 @@ fn slot(
     Ok(Vec::from_slice(alloc, longer.bytes())?)
 }
 
-#[test]
-fn a_token_stands_behind_the_last_bit(rt: HostRuntime) -> Result<(), Fail> {
-    let alloc = rt.alloc();
-    assert_eq!(rt;
-        slot(alloc, 16, &[0x12, 0x34], Branch::B4, 2)?.as_slice(),
-        [0x12, 0x34, 0x80].as_slice()
-    );
-    assert_eq!(rt;
-        slot(alloc, 11, &[0x46, 0x80], Branch::B256, 0xff)?.as_slice(),
-        [0x46, 0x9f, 0xe0].as_slice()
-    );
-    Ok(())
-}
-
 // Whether the parts make a key, which is then one with its own copy and has these bytes.
 fn makes_a_key(alloc: Global, bits: u64, bytes: &[u8]) -> Result<bool, NoMemory> {
     match Key::from_parts(bits, Vec::from_slice(alloc, bytes)?) {
@@ -183,19 +156,32 @@ fn makes_a_key(alloc: Global, bits: u64, bytes: &[u8]) -> Result<bool, NoMemory>
 }
 
 #[test]
-fn parts_make_a_key_where_zeros_fill_the_last_byte(rt: HostRuntime) -> Result<(), Fail> {
+fn keys_are_cut_lengthened_and_made_of_parts(rt: HostRuntime) -> Result<(), Fail> {
     let alloc = rt.alloc();
-    assert!(rt; makes_a_key(alloc, 11, &[0x46, 0x80])?);
-    assert!(rt; makes_a_key(alloc, 320, &[0x46; 40])?);
-    assert!(rt; !makes_a_key(alloc, 11, &[0x46, 0x90])?);
-    assert!(rt; !makes_a_key(alloc, 11, &[0x46, 0x80, 0])?);
-    assert!(rt; !makes_a_key(alloc, 17, &[0x46, 0x80])?);
-    Ok(())
-}
-
-#[test]
-fn four_factors_have_a_branch(rt: HostRuntime) -> Result<(), Fail> {
-    assert!(rt; Branch::from_factor(16) == Some(Branch::B16));
-    assert!(rt; Branch::from_factor(8).is_none());
+    for (bits, want) in [
+        (0, [0x12, 0x34].as_slice()),
+        (4, [0x23, 0x40].as_slice()),
+        (5, [0x46, 0x80].as_slice()),
+        (8, [0x34].as_slice()),
+        (16, [].as_slice()),
+    ] {
+        assert_eq!(rt; cut(alloc, bits)?.as_slice(), want);
+    }
+    let longer = slot(alloc, 16, &[0x12, 0x34], Branch::B4, 2)?;
+    assert_eq!(rt; longer.as_slice(), [0x12, 0x34, 0x80].as_slice());
+    let longer = slot(alloc, 11, &[0x46, 0x80], Branch::B256, 0xff)?;
+    assert_eq!(rt; longer.as_slice(), [0x46, 0x9f, 0xe0].as_slice());
+    for (bits, bytes, made) in [
+        (11, [0x46, 0x80].as_slice(), true),
+        (320, [0x46; 40].as_slice(), true),
+        (11, [0x46, 0x90].as_slice(), false),
+        (11, [0x46, 0x80, 0].as_slice(), false),
+        (17, [0x46, 0x80].as_slice(), false),
+    ] {
+        assert!(rt;
+            makes_a_key(alloc, bits, bytes)? == made,
+            "{bits} bits of {bytes:?}"
+        );
+    }
     Ok(())
 }
