@@ -1,11 +1,7 @@
-mod Keys
-mod Runs
-mod Walk
+mod EntryItems
 mod Pairs
-mod Tokens
-mod Held
-mod Ways
-mod Opened
-mod Laid
-mod Passed
-mod Counts
+mod OpenNodes
+mod PassTable
+mod PassSteps
+mod PassLoop
+mod KeptChildren

@@ -1,19 +1,27 @@
 -- What a builder was told, and the entries that it keeps.
-use Rattle.std.proofs.Common.{◌≡◌, Bool, ℕ, zero, suc, ◌*◌, ◌<◌, List, [], ◌∷◌, ◌++◌, length, map, get_or, refl, sym, ap, ◌∙◌, arith, subst, Less}
+use Rattle.std.proofs.Common.{◌≡◌, Bool, ℕ, suc, ◌*◌, ◌<◌, ◌≤◌, List, [], ◌∷◌, ◌++◌, length, map, get_or, refl, sym, ap, ◌∙◌, arith, subst, inl, inr, Less}
 use Rattle.std.specs.List.{AllByRecursion}
 use Rattle.std.proofs.lemmas.List.{map-append}
 use Rattle.base_model.specs.Bytes.{AreBytes, bytes_cmp}
-use Rattle.trie_model.specs.Bits.{bits_of_bytes, packed, key_cmp, IsRising}
-use Rattle.trie_model.specs.Maps.{Map, entry_item, digest_entry, map_items, map_digests}
+use Rattle.trie_model.specs.Bits.{key_cmp, IsRising}
+use Rattle.trie_model.specs.Items.{Item}
+use Rattle.trie_model.specs.Strings.{strings}
+use Rattle.trie_model.specs.Table.{items_table}
+use Rattle.trie_model.specs.Laws.{AreShort, AreStored}
+use Rattle.trie_model.proofs.StoredRows.{value_rows_are_stored}
+use Rattle.trie_model.specs.Maps.{Limits, Map, entry_item, digest_entry, map_items, map_digests}
 use Rattle.std.specs.FinMap.{entries}
-use Rattle.base_model.proofs.PackedBits.{length-bits_of_bytes, packed-bits_of_bytes}
+use Rattle.base_model.proofs.PackedBits.{length-bits_of_bytes, packed-bits_of_bytes, bytes-small}
 use Rattle.trie_model.proofs.KeyOrder.{cmp-bytes}
+use Rattle.base_model.specs.Bits.{bits_of_bytes, packed}
 use Rattle.bit_keys.specs.declared.branch.Branch.{Branch}
 use Rattle.bit_keys.specs.declared.branch.Branch.TheVariants.{B2, B4, B16, B256}
 use Rattle.bit_keys.specs.Branch.{width_of}
 use Rattle.map_root.specs.declared.entry.Entry.{Entry}
-use Rattle.map_root.specs.Built.{Built, pair_items}
-use Rattle.map_root.specs.Entries.{key_of, keys_of, items_of, pair_of, pairs_of, AreOfBytes, AreWhole}
+use Rattle.map_root.specs.Built.{Built, pair_items, AreWithin}
+use Rattle.trie_model.proofs.TableCounts.{same_count}
+use Rattle.map_root.proofs.EntryItems.{plain_entries}
+use Rattle.map_root.specs.Entries.{key_of, keys_of, items_of, pair_of, pairs_of, AreOfBytes, AreShortDigests, AreWhole}
 
 -- ---- bytes
 -- numbers that are below 256 at each place are bytes
@@ -21,15 +29,9 @@ pub bytes_below : (bs : List ℕ) → ((i : ℕ) → get_or bs i 0 < 256) → Ar
 bytes_below [] h = tt
 bytes_below (b ∷ bs) h = (h 0, bytes_below bs (λ i. h (suc i)))
 
--- and bytes are below 256 at each place
-below_bytes : (bs : List ℕ) → AreBytes bs → (i : ℕ) → get_or bs i 0 < 256
-below_bytes [] h i = omega arith
-below_bytes (b ∷ bs) h zero = h.0
-below_bytes (b ∷ bs) h (suc i) = below_bytes bs h.1 i
-
 -- the bytes of a key that was made of bytes
 key_bytes : (bs : List ℕ) (k : List Bool) → AreBytes bs → k ≡ bits_of_bytes bs → packed k ≡ bs
-key_bytes bs k h e = ap packed e ∙ packed-bits_of_bytes bs (below_bytes bs h)
+key_bytes bs k h e = ap packed e ∙ packed-bits_of_bytes bs (bytes-small bs h)
 
 -- ---- items
 -- the items of the pairs are those of the entries
@@ -48,10 +50,6 @@ items_of_digests (e ∷ es) = ap (λ r. entry_item e ∷ r) (items_of_digests es
 pub items_of_map : (m : Map) (ps : List (List ℕ × List ℕ)) → map_digests m ≡ ps → map_items m ≡ pair_items ps
 items_of_map m ps e = items_of_digests (entries m) ∙ ap pair_items e
 
--- what a builder keeps are the items of what it was told
-pub items_are : (b : Built) (r : Branch) (es xs : List Entry) → xs ≡ es → AreOfBytes es → record { branch = r; pairs = pairs_of es } ≡ b → (width_of r ≡ width_of b.branch) × (items_of xs ≡ pair_items b.pairs)
-items_are b r es xs e h v = (ap (λ b. width_of b.branch) v, ap items_of e ∙ sym (items_of_pairs es h) ∙ ap (λ b. pair_items b.pairs) v)
-
 -- ---- keys of bytes are of whole tokens
 -- a number of bits that eight divides is one that the width divides
 whole_key : (b : Branch) (n l : ℕ) → l ≡ 8 * n → (m : ℕ) × (l ≡ width_of b * m)
@@ -64,6 +62,33 @@ whole_key B256 n l e = (n, omega (arith, e))
 pub whole_keys : (b : Branch) (es : List Entry) → AreOfBytes es → AreWhole (width_of b) es
 whole_keys b [] h = tt
 whole_keys b (e ∷ es) h = (whole_key b (length h.0.0) (length e.key) (ap length h.0.2 ∙ length-bits_of_bytes h.0.0), whole_keys b es h.1)
+
+-- ---- what a builder keeps
+-- is seen as what it was told, so what is made of it is made of that
+pub made_same : {A : Type 0} (f : ℕ → List Item → A) (b : Built) (r : Branch) (es : List Entry) → AreOfBytes es → record { branch = r; pairs = pairs_of es } ≡ b → f (width_of r) (items_of es) ≡ f (width_of b.branch) (pair_items b.pairs)
+made_same f b r es h v = ap (f (width_of r)) (sym (items_of_pairs es h)) ∙ ap (λ (b : Built). f (width_of b.branch) (pair_items b.pairs)) v
+
+-- its table has as many rows as strings are hashed
+pub count_same : (b : Built) (r : Branch) (es : List Entry) → IsRising (keys_of es) → AreOfBytes es → record { branch = r; pairs = pairs_of es } ≡ b → length (items_table (width_of r) (items_of es)) ≡ length (strings (width_of b.branch) (pair_items b.pairs))
+count_same b r es a h v = same_count (length (items_of es)) (width_of r) (items_of es) (plain_entries r es a (whole_keys r es h)) (omega arith) ∙ ap length (made_same strings b r es h v)
+
+-- its keys are within the limits in bits, and its digests are short
+pairs_short : (l : Limits) (es : List Entry) → AreOfBytes es → AreShortDigests es → AreWithin l (pairs_of es) → AreShort l (items_of es)
+pairs_short l [] h s t k d m = absurd m
+pairs_short l (e ∷ es) h s t k d (inl m) =
+    let a : e.key ≡ k = cc in
+    let b : e.digest ≡ d = cc in
+    let c = ap length (key_bytes h.0.0 e.key h.0.1 h.0.2) in
+    let n = ap length h.0.2 ∙ length-bits_of_bytes h.0.0 in
+    let f = ap length a in
+    (let x = t.0 in omega (arith, c, n, f, x), subst (λ d. length d ≤ 32) b s.0)
+pairs_short l (e ∷ es) h s t k d (inr m) = pairs_short l es h.1 s.1 t.1 k d m
+
+-- so its table is in the grammar of stored nodes
+pub table_stored : (b : Built) (r : Branch) (es : List Entry) → IsRising (keys_of es) → AreOfBytes es → AreShortDigests es → record { branch = r; pairs = pairs_of es } ≡ b → (l : Limits) → AreWithin l b.pairs → AreStored l (width_of b.branch) (items_table (width_of b.branch) (pair_items b.pairs))
+table_stored b r es a h s v l t =
+    let short = pairs_short l es h s (subst (λ (b : Built). AreWithin l b.pairs) (sym v) t) in
+    subst (λ (p : ℕ × List Item). AreStored l p.0 (items_table p.0 p.1)) (made_same (λ w is. (w, is)) b r es h v) (value_rows_are_stored l (width_of r) (items_of es) (plain_entries r es a (whole_keys r es h)) short)
 
 -- ---- one more entry
 -- what holds of each and of one more holds of each of them with it at the end
@@ -85,10 +110,11 @@ above (e ∷ es) bs h b a =
 
 -- what a builder keeps stays in order, and made of bytes
 pub one_more : (es new : List Entry) (e : Entry) (bs : List ℕ) → new ≡ es ++ e ∷ [] → e.key ≡ bits_of_bytes bs → AreBytes bs → IsRising (keys_of es) → AreOfBytes es →
-    AllByRecursion (λ (p : List ℕ × List ℕ). bytes_cmp p.0 bs ≡ Less) (pairs_of es) → IsRising (keys_of new) × AreOfBytes new
-one_more es new e bs n k b r o a = (
+    AreShortDigests es → length e.digest ≤ 32 → AllByRecursion (λ (p : List ℕ × List ℕ). bytes_cmp p.0 bs ≡ Less) (pairs_of es) → IsRising (keys_of new) × AreOfBytes new × AreShortDigests new
+one_more es new e bs n k b r o s l a = (
   subst IsRising (sym (ap keys_of n ∙ map-append key_of es (e ∷ []))) (IsRising-push (keys_of es) e.key r (subst (λ q. AllByRecursion (λ k. key_cmp k q ≡ Less) (keys_of es)) (sym k) (above es bs o b a))),
   subst AreOfBytes (sym n) (All-push (λ (e : Entry). (bs : List ℕ) × AreBytes bs × (e.key ≡ bits_of_bytes bs)) es e o (bs, b, k)),
+  subst AreShortDigests (sym n) (All-push (λ (e : Entry). length e.digest ≤ 32) es e s l),
 )
 
 -- the pairs have one more at their end

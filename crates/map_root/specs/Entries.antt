@@ -1,8 +1,8 @@
 -- The entries that a builder keeps, and the parts of them that a node is made of.
-use Rattle.std.specs.Prelude.{◌≡◌, ℕ, Bool, List, length, map, ◌==◌, ◌*◌, ◌≤◌}
+use Rattle.std.specs.Prelude.{◌≡◌, ℕ, Bool, List, length, map, ◌*◌, ◌≤◌}
 use Rattle.std.specs.List.{AllByRecursion}
 use Rattle.base_model.specs.Bytes.{AreBytes}
-use Rattle.trie_model.specs.Bits.{bits_of_bytes, packed, token_at}
+use Rattle.trie_model.specs.Bits.{bits_of_bytes, packed}
 use Rattle.trie_model.specs.Items.{Item, Val}
 use Rattle.map_root.specs.declared.entry.Entry.{Entry}
 
@@ -25,18 +25,14 @@ pair_of e = (packed e.key, e.digest)
 abbrev pub pairs_of : List Entry → List (List ℕ × List ℕ)
 pairs_of = map pair_of
 
--- whether the token of w bits that follows n bits is t
-abbrev pub has_token : ℕ → ℕ → ℕ → Entry → Bool
-has_token w n t e = token_at w n e.key == t
-
 -- keys that were made of bytes
 abbrev pub AreOfBytes : List Entry → Type 0
 AreOfBytes es = AllByRecursion (λ (e : Entry). (bs : List ℕ) × AreBytes bs × (e.key ≡ bits_of_bytes bs)) es
 
+-- digests of at most 32 bytes
+abbrev pub AreShortDigests : List Entry → Type 0
+AreShortDigests es = AllByRecursion (λ (e : Entry). length e.digest ≤ 32) es
+
 -- keys of whole tokens
 abbrev pub AreWhole : ℕ → List Entry → Type 0
 AreWhole w es = AllByRecursion (λ (e : Entry). (n : ℕ) × (length e.key ≡ w * n)) es
-
--- keys of at least n bits
-abbrev pub AreLong : ℕ → List Entry → Type 0
-AreLong n es = AllByRecursion (λ (e : Entry). n ≤ length e.key) es

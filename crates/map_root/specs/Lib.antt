@@ -1,3 +1,5 @@
 pub mod Built
 pub mod Entries
-pub mod Way
+pub mod PassState
+pub mod Kept
+pub mod Hashes

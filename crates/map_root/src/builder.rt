@@ -4,14 +4,16 @@ ghost use Rattle.std.specs.declared.cmp.Ordering.TheVariants.{Less};
 ghost use Rattle.base_model.specs.Bytes.{bytes_cmp};
 ghost use Rattle.trie_model.specs.Ids.{id};
 ghost use Rattle.trie_model.specs.Strings.{strings};
-ghost use Rattle.trie_model.specs.Maps.{Map, map_digests, map_items, root};
+ghost use Rattle.trie_model.specs.Laws.{AreStored};
+ghost use Rattle.trie_model.specs.Maps.{Limits, Map, map_digests, map_items, root};
 ghost use Rattle.trie_model.specs.Table.{items_table, table};
 ghost use Rattle.bit_keys.specs.Branch.{width_of};
-ghost use Rattle.map_root.specs.Built.{pair_items};
+ghost use Rattle.map_root.specs.Built.{pair_items, AreWithin};
+ghost use Rattle.map_root.specs.Hashes.{GrewAtMost};
 
 use crate::entry::Entry;
-use crate::nodes::{KeptNodes, NoNodes, NodeSink};
 use crate::pass::pass;
+use crate::sinks::{KeptNodes, NoNodes, NodeSink};
 use bit_keys::{Branch, Id, Key};
 use mdb_base::NoMemory;
 use node_codec::Node;
@@ -30,13 +32,13 @@ pub struct Builder {
 impl Model for Builder {
     ghost use Rattle.trie_model.specs.Bits.{IsRising};
     ghost use Rattle.map_root.specs.Built.{Built};
-    ghost use Rattle.map_root.specs.Entries.{keys_of, pairs_of, AreOfBytes};
+    ghost use Rattle.map_root.specs.Entries.{keys_of, pairs_of, AreOfBytes, AreShortDigests};
 
     ghost Value = { Built };
 
     ghost view = { λ b. record { branch = b.branch; pairs = pairs_of b.entries.items } };
 
-    ghost invariant = { λ b. IsRising (keys_of b.entries.items) × AreOfBytes b.entries.items };
+    ghost invariant = { λ b. IsRising (keys_of b.entries.items) × AreOfBytes b.entries.items × AreShortDigests b.entries.items };
 }
 
 impl Builder {
@@ -62,12 +64,15 @@ impl Builder {
         let Ok(key) = Key::from_bytes(alloc, key) else {
             return Err(NoMemory);
         };
+        // That the digest is short is said of its bytes.
+        let _bytes = digest.bytes();
         self.entries.push(Entry { key, digest })?;
         Ok(())
     }
 
     /// The root, and all nodes with their keys, in key order. A node is hashed once, and none is
-    /// left out: `steps` counts as many nodes as there are hashed strings.
+    /// left out: `steps` counts as many nodes as there are hashed strings, and no more after want
+    /// of memory.
     pub fn finish<L: Ledger>(
         self,
         alloc: Global,
@@ -77,9 +82,11 @@ impl Builder {
         ensures table { IfOk result (λ made. (m : Map) → map_digests m ≡ self.pairs → made.1.items ≡ table (width_of self.branch) m) }
         ensures id { IfOk result (λ made. made.0 ≡ id (width_of self.branch) (pair_items self.pairs)) }
         ensures nodes { IfOk result (λ made. made.1.items ≡ items_table (width_of self.branch) (pair_items self.pairs)) }
+        ensures stored { IfOk result (λ made. (l : Limits) → AreWithin l self.pairs → AreStored l (width_of self.branch) made.1.items) }
         ensures cost { OnOk result ((m : Map) → map_digests m ≡ self.pairs → steps.new ≡ steps.old + length (strings (width_of self.branch) (map_items m))) }
         ensures cost_of_pairs { OnOk result (steps.new ≡ steps.old + length (strings (width_of self.branch) (pair_items self.pairs))) }
         ensures ticks { IfOk result (λ made. steps.new ≡ steps.old + length made.1.items) }
+        ensures err { OnErr result (GrewAtMost (length (strings (width_of self.branch) (pair_items self.pairs))) steps.old steps.new) }
     {
         let mut kept = KeptNodes {
             last_first: Vec::new(alloc),
@@ -96,6 +103,7 @@ impl Builder {
         ensures id { IfOk result (λ made. made ≡ id (width_of self.branch) (pair_items self.pairs)) }
         ensures cost { OnOk result ((m : Map) → map_digests m ≡ self.pairs → steps.new ≡ steps.old + length (strings (width_of self.branch) (map_items m))) }
         ensures cost_of_pairs { OnOk result (steps.new ≡ steps.old + length (strings (width_of self.branch) (pair_items self.pairs))) }
+        ensures err { OnErr result (GrewAtMost (length (strings (width_of self.branch) (pair_items self.pairs))) steps.old steps.new) }
     {
         pass_over(alloc, self, &mut NoNodes, steps)
     }
@@ -108,10 +116,13 @@ fn pass_over<K: NodeSink, L: Ledger>(
     sink: &mut K,
     steps: &mut Steps<L>,
 ) -> Result<Id, NoMemory>
+    requires { K.holds sink.old [] }
     ensures id { IfOk result (λ made. made ≡ id (width_of builder.branch) (pair_items builder.pairs)) }
-    ensures rows { OnOk result (K.holds sink.old [] → K.holds sink.new (items_table (width_of builder.branch) (pair_items builder.pairs))) }
+    ensures rows { OnOk result (K.holds sink.new (items_table (width_of builder.branch) (pair_items builder.pairs))) }
     ensures cost { OnOk result (steps.new ≡ steps.old + length (strings (width_of builder.branch) (pair_items builder.pairs))) }
     ensures ticks { OnOk result (steps.new ≡ steps.old + length (items_table (width_of builder.branch) (pair_items builder.pairs))) }
+    ensures err { OnErr result (GrewAtMost (length (strings (width_of builder.branch) (pair_items builder.pairs))) steps.old steps.new) }
+    ensures stored { (l : Limits) → AreWithin l builder.pairs → AreStored l (width_of builder.branch) (items_table (width_of builder.branch) (pair_items builder.pairs)) }
 {
     pass(alloc, builder.branch, builder.entries, sink, steps)
 }
@@ -147,6 +158,7 @@ fn counted_table<L: Ledger>(
     ensures table { IfOk result (λ made. (m : Map) → map_digests m ≡ builder.pairs → made.1.items ≡ table (width_of builder.branch) m) }
     ensures id { IfOk result (λ made. made.0 ≡ id (width_of builder.branch) (pair_items builder.pairs)) }
     ensures nodes { IfOk result (λ made. made.1.items ≡ items_table (width_of builder.branch) (pair_items builder.pairs)) }
+    ensures stored { IfOk result (λ made. (l : Limits) → AreWithin l builder.pairs → AreStored l (width_of builder.branch) made.1.items) }
 {
     let mut steps = Steps::<L>::new(blank);
     builder.finish(alloc, &mut steps)
@@ -158,6 +170,7 @@ pub fn table_of_builder(alloc: Global, builder: Builder) -> Result<(Id, Vec<(Key
     ensures table { IfOk result (λ made. (m : Map) → map_digests m ≡ builder.pairs → made.1.items ≡ table (width_of builder.branch) m) }
     ensures id { IfOk result (λ made. made.0 ≡ id (width_of builder.branch) (pair_items builder.pairs)) }
     ensures nodes { IfOk result (λ made. made.1.items ≡ items_table (width_of builder.branch) (pair_items builder.pairs)) }
+    ensures stored { IfOk result (λ made. (l : Limits) → AreWithin l builder.pairs → AreStored l (width_of builder.branch) made.1.items) }
 {
     counted_table::<Brand>(alloc, builder, Blank::new(1))
 }

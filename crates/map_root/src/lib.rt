@@ -9,10 +9,7 @@ mod builder;
 mod entry;
 mod nodes;
 mod pass;
-#[cfg(test)]
-mod plain;
-#[cfg(test)]
-mod table_tests;
+mod sinks;
 #[cfg(test)]
 mod tests;
 

@@ -1,102 +1,182 @@
-use crate::{Builder, root_of_builder};
-use bit_keys::{Branch, Id};
+// Tables of generated maps, against hashes of tables that were made elsewhere from the definition.
+use crate::{Builder, root_of_builder, table_of_builder};
+use bit_keys::{Branch, Id, Key};
+use mdb_base::NoMemory;
+use node_codec::{Node, encode};
 use sha2::{Digest as Hasher, Sha256};
 use std::alloc::Global;
+use std::collections::BTreeMap;
 use std::process::Abort;
 use std::test::Fail;
-use trie_items::value_digest;
+use trie_items::{Digest, value_digest};
 
-// The SHA-256 of these pieces, one behind the other.
-fn hash(alloc: Global, pieces: &[&[u8]]) -> Result<Id, Fail> {
-    let mut text = Vec::new(alloc);
-    for piece in pieces {
-        text.extend_from_slice(piece)?;
-    }
-    Ok(Sha256::digest(text.as_slice()))
+// Few bytes, so that many keys begin alike.
+const BYTES: [u8; 5] = [0x00, 0x01, 0x12, 0x13, 0xf0];
+
+// The number after this one, of a generator below 65537.
+fn next(state: u64) -> u64 {
+    (state % 65537 * 75 + 74) % 65537
 }
 
-// That the root of keys 12 and 13, with values 61 and 62, is the ID of a node with these indices
-// and this form of its flag and its key.
-fn assert_meet(
+// A key of at most three bytes, and the generator's number after it.
+fn generated_key(alloc: Global, first: u64) -> Result<(Vec<u8>, u64), NoMemory> {
+    let mut state = next(first);
+    let mut key = Vec::new(alloc);
+    for _ in 0..state % 4 {
+        state = next(state);
+        key.push(BYTES[(state % 5) as usize])?;
+    }
+    Ok((key, next(state)))
+}
+
+// The digests of a generated map.
+fn generated_map(alloc: Global) -> Result<BTreeMap<Vec<u8>, Digest>, NoMemory> {
+    let mut entries = BTreeMap::new(alloc);
+    let mut state = 1;
+    for _ in 0..60 {
+        let (key, after) = generated_key(alloc, state)?;
+        state = after;
+        entries.insert(key, value_digest(&[(state % 256) as u8]))?;
+    }
+    Ok(entries)
+}
+
+fn filled(
+    alloc: Global,
+    branch: Branch,
+    entries: BTreeMap<Vec<u8>, Digest>,
+) -> Result<Builder, NoMemory> {
+    let mut builder = Builder::new(alloc, branch);
+    for (key, digest) in entries {
+        builder.add(&key, digest)?;
+    }
+    Ok(builder)
+}
+
+// The root, and behind it each node's key and stored form.
+fn shown(alloc: Global, root: Id, nodes: Vec<(Key, Node)>) -> Result<Vec<u8>, NoMemory> {
+    let mut out = Vec::from_slice(alloc, &root)?;
+    for (key, node) in nodes {
+        out.push((key.bits() % 256) as u8)?;
+        out.extend_from_slice(key.bytes())?;
+        encode(&node, &mut out)?;
+    }
+    Ok(out)
+}
+
+// That the pass gives this many nodes, which look so with the root in front, and that the pass
+// that keeps no node gives the same root.
+fn assert_table(
     rt: &impl Abort,
     alloc: Global,
     branch: Branch,
-    indices: (u8, u8),
-    rest: &[u8],
+    count: usize,
+    want: Id,
 ) -> Result<(), Fail> {
-    let c = Sha256::digest(&[0u8, 1, 1, 0x61, 8, 0x12]);
-    let e = Sha256::digest(&[0u8, 1, 1, 0x62, 8, 0x13]);
-    let want = hash(alloc, &[&[2, indices.0], &c, &[indices.1], &e, rest])?;
-    let mut builder = Builder::new(alloc, branch);
-    builder.add(&[0x12], value_digest(&[0x61]))?;
-    builder.add(&[0x13], value_digest(&[0x62]))?;
-    assert_eq!(rt; root_of_builder(alloc, builder)?, want, "at {branch:?}");
+    let (root, nodes) = table_of_builder(alloc, filled(alloc, branch, generated_map(alloc)?)?)?;
+    assert_eq!(rt; nodes.len(), count, "at {branch:?}");
+    let shown = shown(alloc, root, nodes)?;
+    assert_eq!(rt; Sha256::digest(shown.as_slice()), want, "at {branch:?}");
+    let alone = root_of_builder(alloc, filled(alloc, branch, generated_map(alloc)?)?)?;
+    assert_eq!(rt; alone, root, "at {branch:?}");
     Ok(())
 }
 
 #[test]
-fn no_keys_have_32_zeros(rt: HostRuntime) -> Result<(), Fail> {
+fn a_generated_map_has_this_root_and_table_at_each_factor(rt: HostRuntime) -> Result<(), Fail> {
     let alloc = rt.alloc();
-    let root = root_of_builder(alloc, Builder::new(alloc, Branch::B16))?;
-    assert_eq!(rt; root, [0; 32]);
-    Ok(())
-}
-
-#[test]
-fn one_key_has_the_id_of_its_node(rt: HostRuntime) -> Result<(), Fail> {
-    let alloc = rt.alloc();
-    for branch in [Branch::B2, Branch::B4, Branch::B16, Branch::B256] {
-        let mut builder = Builder::new(alloc, branch);
-        builder.add(&[0x6b], value_digest(&[0x76]))?;
-        let want = Sha256::digest(&[0u8, 1, 1, 0x76, 8, 0x6b]);
-        assert_eq!(rt; root_of_builder(alloc, builder)?, want, "at {branch:?}");
+    for (branch, count, want) in [
+        (
+            Branch::B2,
+            48,
+            [
+                0x69, 0x27, 0x0f, 0x01, 0x06, 0x7d, 0xd1, 0xd1, 0xa4, 0x63, 0x4c, 0xaa, 0xf9, 0x85,
+                0x4f, 0x53, 0x45, 0xcc, 0xe5, 0xef, 0x78, 0x3d, 0x1d, 0xb7, 0x37, 0x91, 0xb2, 0x42,
+                0x15, 0xa0, 0x6c, 0x4f,
+            ],
+        ),
+        (
+            Branch::B4,
+            48,
+            [
+                0x6a, 0x29, 0xc9, 0xe2, 0x4f, 0xfa, 0xd7, 0x47, 0xd9, 0x38, 0x3d, 0x32, 0xa1, 0xe4,
+                0x5c, 0xc3, 0xe8, 0xdc, 0x13, 0x65, 0xf4, 0x0b, 0xc8, 0x60, 0xc8, 0x1f, 0xa7, 0xf1,
+                0x26, 0x1d, 0x1d, 0x1d,
+            ],
+        ),
+        (
+            Branch::B16,
+            43,
+            [
+                0x8d, 0xa1, 0x66, 0x73, 0xa8, 0xb4, 0x21, 0x0b, 0x28, 0x10, 0xb0, 0x37, 0x7f, 0xe5,
+                0x24, 0x31, 0x94, 0x05, 0x89, 0x42, 0x57, 0x85, 0x20, 0xb2, 0xc7, 0xf7, 0xb6, 0x73,
+                0x17, 0x75, 0x04, 0x20,
+            ],
+        ),
+        (
+            Branch::B256,
+            35,
+            [
+                0x1b, 0x63, 0x15, 0xb3, 0x19, 0x50, 0x7b, 0x5a, 0xc3, 0x06, 0xb8, 0xa4, 0x82, 0x70,
+                0x7e, 0xc5, 0xe3, 0xb6, 0xcf, 0xab, 0x5d, 0x54, 0xd8, 0x5b, 0x9c, 0xc1, 0x4c, 0xce,
+                0xe5, 0x4a, 0xa3, 0xe9,
+            ],
+        ),
+    ] {
+        assert_table(&rt, alloc, branch, count, want)?;
     }
+    let (root, nodes) = table_of_builder(alloc, Builder::new(alloc, Branch::B16))?;
+    assert_eq!(rt; root, [0; 32]);
+    assert_eq!(rt; nodes.len(), 0);
     Ok(())
 }
 
-#[test]
-fn two_keys_meet_in_a_node_at_each_factor(rt: HostRuntime) -> Result<(), Fail> {
-    let alloc = rt.alloc();
-    assert_meet(&rt, alloc, Branch::B2, (0, 1), &[0, 7, 0x12])?;
-    assert_meet(&rt, alloc, Branch::B4, (2, 3), &[0, 6, 0x10])?;
-    assert_meet(&rt, alloc, Branch::B16, (2, 3), &[0, 4, 0x10])?;
-    assert_meet(&rt, alloc, Branch::B256, (0x12, 0x13), &[0, 0])
+// The state of the generator after this one. Its highest eight bits are the next byte.
+fn turned(state: u64) -> u64 {
+    state
+        .wrapping_mul(6_364_136_223_846_793_005)
+        .wrapping_add(1_442_695_040_888_963_407)
 }
 
-#[test]
-fn an_index_above_127_takes_two_bytes(rt: HostRuntime) -> Result<(), Fail> {
-    let alloc = rt.alloc();
-    let f = Sha256::digest(&[0u8, 1, 1, 0x61, 8, 0x00]);
-    let g = Sha256::digest(&[0u8, 1, 1, 0x61, 8, 0xc8]);
-    let want = hash(alloc, &[&[2, 0], &f, &[0xc8, 0x01], &g, &[0, 0]])?;
-    let mut builder = Builder::new(alloc, Branch::B256);
-    builder.add(&[0x00], value_digest(&[0x61]))?;
-    builder.add(&[0xc8], value_digest(&[0x61]))?;
-    assert_eq!(rt; root_of_builder(alloc, builder)?, want);
-    Ok(())
+// So many generated bytes, and the generator's state after them.
+fn generated_bytes(alloc: Global, first: u64, count: usize) -> Result<(Vec<u8>, u64), NoMemory> {
+    let mut state = first;
+    let mut bytes = Vec::new(alloc);
+    for _ in 0..count {
+        state = turned(state);
+        bytes.push((state >> 56) as u8)?;
+    }
+    Ok((bytes, state))
 }
 
-#[test]
-fn a_key_that_begins_another_is_the_node_above_it(rt: HostRuntime) -> Result<(), Fail> {
-    let alloc = rt.alloc();
-    let f = Sha256::digest(&[0u8, 1, 1, 0x61, 8, 0x00]);
-    let want = hash(alloc, &[&[1, 0], &f, &[1, 0, 0]])?;
-    let mut builder = Builder::new(alloc, Branch::B16);
-    builder.add(&[], value_digest(&[]))?;
-    builder.add(&[0x00], value_digest(&[0x61]))?;
-    assert_eq!(rt; root_of_builder(alloc, builder)?, want);
-    Ok(())
+// How many bytes a generated value has, by the two bytes in front of it.
+fn value_size(sizes: &[u8]) -> usize {
+    match sizes {
+        [high, low] => 8 + (usize::from(*high) * 256 + usize::from(*low)) % 193,
+        _ => 8,
+    }
 }
 
+// The digests of generated pairs: keys of 32 bytes, values of 8 to 200.
+fn generated_pairs(alloc: Global, count: usize) -> Result<BTreeMap<Vec<u8>, Digest>, NoMemory> {
+    let mut entries = BTreeMap::new(alloc);
+    let mut state = 1;
+    for _ in 0..count {
+        let (key, after_key) = generated_bytes(alloc, state, 32)?;
+        let (sizes, after_sizes) = generated_bytes(alloc, after_key, 2)?;
+        let (value, after) = generated_bytes(alloc, after_sizes, value_size(&sizes))?;
+        state = after;
+        entries.insert(key, value_digest(&value))?;
+    }
+    Ok(entries)
+}
+
+// A tick is a node, so this is how often nodes are hashed. The number is another program's.
 #[test]
-fn keys_may_part_at_the_first_token(rt: HostRuntime) -> Result<(), Fail> {
+fn a_hundred_thousand_pairs_take_137260_node_hashes(rt: HostRuntime) -> Result<(), Fail> {
     let alloc = rt.alloc();
-    let c = Sha256::digest(&[0u8, 1, 1, 0x61, 8, 0x12]);
-    let j = Sha256::digest(&[0u8, 1, 1, 0x63, 8, 0x20]);
-    let want = hash(alloc, &[&[2, 1], &c, &[2], &j, &[0, 0]])?;
-    let mut builder = Builder::new(alloc, Branch::B16);
-    builder.add(&[0x12], value_digest(&[0x61]))?;
-    builder.add(&[0x20], value_digest(&[0x63]))?;
-    assert_eq!(rt; root_of_builder(alloc, builder)?, want);
+    let builder = filled(alloc, Branch::B16, generated_pairs(alloc, 100_000)?)?;
+    let (_root, nodes) = table_of_builder(alloc, builder)?;
+    assert_eq!(rt; nodes.len(), 137_260);
     Ok(())
 }

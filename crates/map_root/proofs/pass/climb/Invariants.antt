@@ -1,15 +1,16 @@
-use Rattle.std.proofs.Common.{length, List}
+use Rattle.std.proofs.Common.{◌≤◌, length}
 use Rattle.bit_keys.specs.Branch.{width_of}
-use Rattle.trie_model.specs.Table.{Row}
-use Rattle.map_root.specs.Way.{climb, above_of, AreNested}
-use Rattle.map_root.proofs.Laid.{Toward}
+use Rattle.map_root.specs.PassState.{PassState}
+use Rattle.map_root.specs.Kept.{Stands, StandsNested}
+use Rattle.map_root.proofs.PassSteps.{Toward}
 use Rattle.map_root.proofs.pass.climb.Given as goal
 
--- the nodes still open are nested, and climbing on from here ends where climbing from the start does
+-- the code stands at a state with nested open nodes, from which climbing ends where it does from the start
 abbrev pub invariant-loop-next : goal.invariant-loop-next
 invariant-loop-next g l = record {
-  nested : AreNested (width_of l.branch) (length l.low.0) (above_of l.above.items);
-  toward : (rows : List Row) → Toward g.K.NodeSink.holds (width_of l.branch) l.least l.low (above_of l.above.items) l.fn.sink l.sink l.fn.steps l.steps rows (climb (width_of l.branch) l.least l.fn.low (above_of l.fn.above.items) rows);
+  nested : StandsNested g.K.NodeSink.kept g.K.NodeSink.holds (width_of l.branch) l.low l.above.items l.sink;
+  toward : (y : PassState) → Stands g.K.NodeSink.kept g.K.NodeSink.holds l.fn.low l.fn.above.items l.fn.sink y → Toward g.K.NodeSink.kept g.K.NodeSink.holds (width_of l.branch) l.least y l.low l.above.items l.sink l.fn.steps l.steps;
+  count : l.fn.steps ≤ l.steps;
 }
 
 abbrev pub decreases-loop-next : goal.decreases-loop-next
