@@ -1,3 +1,4 @@
 pub mod ReadStep
 pub mod Groups
 pub mod ReadNumber
+pub mod WrittenPieces

@@ -1,5 +1,5 @@
 -- What a source and a sink in memory hold, and what one call of them does.
-use Rattle.std.specs.Prelude.{ℕ, ◌+◌, ◌-◌, ◌^◌, ◌≡◌, min, List, length, Result, MatchResult}
+use Rattle.std.specs.Prelude.{ℕ, min, List, length}
 
 -- a source in memory
 pub record SourceState : Type 0 where
@@ -16,14 +16,6 @@ pub record SinkState : Type 0 where
   pub calls : ℕ  -- how many writes there were
   pub faults : ℕ  -- how many of them failed
 
--- one more, in a count that stays at the end of its type
-abbrev pub one_more : ℕ → ℕ
-one_more count = min (count + 1) (2 ^ 64 - 1)
-
 -- how many bytes a read gives: what a call may give, what there is room for, and what is left
 abbrev pub read_count : SourceState → List ℕ → ℕ
 read_count source into = min (min (length into) source.piece) (length source.left)
-
--- the count of faults rises by one at an error alone
-abbrev pub CountsFaults : {T E : Type 0} → ℕ → ℕ → Result T E → Type 0
-CountsFaults before now result = MatchResult result (λ _. now ≡ before) (λ _. now ≡ one_more before)

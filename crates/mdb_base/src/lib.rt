@@ -1,4 +1,5 @@
-//! Numbers as bytes, and the traits by which bytes come in and go out, with stand-ins in memory.
+//! Numbers as bytes, the traits by which bytes come in and go out, with stand-ins in memory, and a
+//! text that is written to its end.
 //!
 //! It stands on `base_model` alone. `Failed` is the answer of a source or a sink whose count of
 //! faults rose, `VarintFault` says why a number is not read, and `NoMemory` is the answer of a call
@@ -9,11 +10,13 @@ mod faults;
 mod memory;
 mod outside;
 mod uvarint;
+mod writing;
 
 pub use faults::{LimitKind, NoMemory};
 pub use memory::{MemSink, MemSource};
 pub use outside::{Failed, Sink, Source};
 pub use uvarint::{VarintFault, read_uvarint, write_uvarint};
+pub use writing::write_all;
 
 #[cfg(test)]
 mod tests;

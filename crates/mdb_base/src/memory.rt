@@ -2,8 +2,8 @@
 ghost use Rattle.std.specs.Prelude.{◌≡◌, ◌≤◌, ◌<◌, ◌↔◌, [], ◌∷◌, Some, drop, length, vec_len, IsErr, IfOk, Contains};
 ghost use Rattle.std.specs.Io.{ReadsAtMost, WritesAtMost};
 ghost use Rattle.std.specs.Io.KnownBytes.{ReadConsumes, WriteAppends};
-ghost use Rattle.base_model.specs.Faults.{HasCause, TookNothing, TellsAlike};
-ghost use Rattle.mdb_base.specs.InMemory.{SourceState, SinkState, one_more, read_count, CountsFaults};
+ghost use Rattle.base_model.specs.Faults.{HasCause, TookNothing, TellsAlike, CountsFaults, one_more};
+ghost use Rattle.mdb_base.specs.InMemory.{SourceState, SinkState, read_count};
 
 use crate::{Failed, Sink, Source};
 use std::alloc::Global;

@@ -1,3 +1,5 @@
+ghost use Rattle.std.specs.Prelude.{Some};
+
 use super::*;
 use std::alloc::Global;
 use std::test::Fail;
@@ -126,4 +128,41 @@ fn a_number_is_read_where_it_is_the_shortest_of_64_bits(rt: HostRuntime) {
             assert_eq!(rt; read_uvarint(bytes, at), want, "for {bytes:?} at {at}");
         }
     }
+}
+
+/// A sink that takes at most three bytes at a write.
+#[derive(Drop)]
+struct ShortSink {
+    inner: MemSink,
+}
+
+impl Sink for ShortSink {
+    ghost taken = { λ s. Some s.inner.taken };
+
+    ghost faults = { λ s. s.inner.faults };
+
+    fn write(&mut self, piece: &[u8]) -> Result<usize, Failed> {
+        self.inner.write(&piece[..piece.len().min(3)])
+    }
+}
+
+#[test]
+fn a_text_is_written_to_its_end_or_to_the_write_that_fails(rt: HostRuntime) -> Result<(), Fail> {
+    let alloc = rt.alloc();
+    let rows: [(&[u8], u64, Result<(), Failed>, &[u8]); 6] = [
+        (b"", 0, Ok(()), b""),
+        (b"abc", 1, Ok(()), b"abc"),
+        (b"abcdefgh", 3, Ok(()), b"abcdefgh"),
+        (b"abcdefgh", 2, Err(Failed), b"abcdef"),
+        (b"abcdefgh", 1, Err(Failed), b"abc"),
+        (b"abcdefgh", 0, Err(Failed), b""),
+    ];
+    for (text, failing, want, taken) in rows {
+        let mut out = ShortSink {
+            inner: MemSink::new(alloc, numbers(alloc, &[failing])?),
+        };
+        assert_eq!(rt; write_all(&mut out, text), want, "of {text:?} at {failing}");
+        assert_eq!(rt; out.inner.bytes(), taken, "of {text:?} at {failing}");
+    }
+    Ok(())
 }

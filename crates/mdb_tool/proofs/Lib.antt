@@ -1,12 +1,4 @@
-pub mod WordLemmas
-pub mod Scan
-pub mod TextLines
-pub mod Overlong
-pub mod Pulled
-pub mod Wrote
-pub mod MapLemmas
-pub mod LineByLine
-pub mod RootOutcome
-pub mod DigitTable
-pub mod HexWords
-pub mod Undecided
+pub mod MapDigests
+pub mod ReadingOfLines
+pub mod UsedBytes
+pub mod RootEnds

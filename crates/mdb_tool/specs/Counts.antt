@@ -1,6 +1,6 @@
 -- How a stream of std counts its failures.
 use Rattle.std.specs.Prelude.{ℕ, ◌≡◌, ◌==◌, ◌&&◌, if◌then◌else◌, nat_lt, List, length, Option, None, Result, MatchResult}
-use Rattle.mdb_base.specs.InMemory.{one_more}
+use Rattle.base_model.specs.Faults.{one_more}
 
 -- what a stream of std tells of its bytes
 abbrev pub untold : Option (List ℕ)

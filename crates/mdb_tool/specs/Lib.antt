@@ -1,10 +1,6 @@
-pub mod HexWords
-pub mod ReadLine
 pub mod ReadWords
-pub mod StatusText
-pub mod Stream
+pub mod Ends
+pub mod MapLines
 pub mod Counts
-pub mod Reading
-pub mod Run
 pub mod Asked
 pub mod Process

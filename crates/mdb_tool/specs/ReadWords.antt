@@ -1,14 +1,18 @@
--- The command that was read from the words, as the definitions see it.
+-- The job that was read from the words, as the definitions see it.
 use Rattle.std.specs.Prelude.{◌≡◌, ℕ, Result, Ok, Err}
-use Rattle.text_model.specs.Command.{Command, Root}
+use Rattle.run_model.specs.Command.{Command, Root, Job}
 use Rattle.bit_keys.specs.Branch.{width_of}
 use Rattle.mdb_tool.specs.declared.words.Command.{Command as ReadCommand}
 use Rattle.mdb_tool.specs.declared.words.Command.TheVariants.{Root as ReadRoot}
+use Rattle.mdb_tool.specs.declared.words.Job.{Job as ReadJob}
 
 abbrev pub seen_command : ReadCommand → Command
-seen_command (ReadRoot branch) = Root (width_of branch)
+seen_command ReadRoot = Root
+
+abbrev pub seen_job : ReadJob → Job
+seen_job job = record { width = width_of job.branch; command = seen_command job.command }
 
 -- what was read is what the words stand for
-abbrev pub IsRead : Result ReadCommand ℕ → Result Command ℕ → Type 0
-IsRead (Ok command) meant = meant ≡ Ok (seen_command command)
-IsRead (Err place) meant = meant ≡ Err place
+abbrev pub AreRead : {A B : Type 0} → (A → B) → Result A ℕ → Result B ℕ → Type 0
+AreRead seen (Ok x) meant = meant ≡ Ok (seen x)
+AreRead seen (Err place) meant = meant ≡ Err place

@@ -5,27 +5,23 @@ ghost use Rattle.std.specs.Map.{remove_entry};
 ghost use Rattle.std.specs.BTreeMap.{is_at};
 ghost use Rattle.base_model.specs.Bytes.{bytes_cmp};
 ghost use Rattle.trie_model.specs.Maps.{Map, map_digests, root as root_of_map};
-ghost use Rattle.text_model.specs.PutLines.{after_line};
+ghost use Rattle.text_model.specs.MapOfLines.{after_line};
 ghost use Rattle.bit_keys.specs.Branch.{width_of};
-ghost use Rattle.mdb_tool.specs.ReadLine.{seen_line};
+ghost use Rattle.batch_text.specs.SeenLine.{seen_line};
 
-use crate::put_lines::Line;
+use batch_text::{KeyBytes, Line};
 use bit_keys::{Branch, Id};
 use map_root::{Builder, root_of_builder};
 use mdb_base::NoMemory;
-use smallvec::SmallVec;
 use std::alloc::Global;
 use std::collections::BTreeMap;
 use std::marker::Model;
 use trie_items::{Digest, value_digest};
 
-/// A key of the map: one of up to 32 bytes in place, so that the ordered map finds its keys beside one another.
-pub(crate) type MapKey = SmallVec<u8, 32>;
-
 /// What is kept of a map to know its root: the digest of each value, in the order of the keys.
 #[derive(Drop)]
 pub(crate) struct Digests {
-    entries: BTreeMap<MapKey, Digest>,
+    entries: BTreeMap<KeyBytes, Digest>,
 }
 
 impl Model for Digests {
@@ -46,7 +42,7 @@ impl Digests {
     }
 
     /// Puts a digest at a key, in the place of the one that is there.
-    pub(crate) fn put(&mut self, key: MapKey, digest: Digest) -> Result<(), NoMemory>
+    pub(crate) fn put(&mut self, key: KeyBytes, digest: Digest) -> Result<(), NoMemory>
         ensures ok { OnOk result (self.new ≡ put bytes_cmp key.items digest self.old) }
         ensures err { OnErr result (self.new ≡ self.old) }
     {
@@ -56,7 +52,7 @@ impl Digests {
 
     /// Does what a line of puts asks for.
     pub(crate) fn apply(&mut self, line: Line) -> Result<(), NoMemory>
-        ensures ok { (m : Map) → self.old ≡ map_digests m → OnOk result (self.new ≡ map_digests (after_line m (Some (seen_line line)))) }
+        ensures ok { (m : Map) → self.old ≡ map_digests m → OnOk result (self.new ≡ map_digests (after_line m (seen_line line))) }
         ensures err { OnErr result (self.new ≡ self.old) }
     {
         match line {
@@ -70,7 +66,7 @@ impl Digests {
     }
 
     /// Deletes a key, where it is there.
-    pub(crate) fn remove(&mut self, key: &MapKey)
+    pub(crate) fn remove(&mut self, key: &KeyBytes)
         ensures { self.new ≡ remove_entry (is_at (bytes_cmp key.now.items)) self.old }
     {
         self.entries.remove(key);

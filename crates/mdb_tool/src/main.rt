@@ -1,21 +1,19 @@
 //! The program `mdb`: the words of the command line, the input and the output, and one top call, `run`.
 //!
-//! `main` hands them to `carry_out`, which does what stands around `run`. The crate stands on `map_root`
-//! and all below it, and on `hex`, `memchr` and `smallvec`. Its errors are the statuses of `Status`, each
-//! with its cause in the contract of `run`. What the real streams give and take, no clause can say.
+//! `main` hands them to `carry_out`, which does what stands around `run`. The crate stands on `batch_text`
+//! and `map_root` and all below them, and on `hex` for the digits that it prints. Its errors are the
+//! statuses of `Status`, each with its cause in the contract of `run`, whose words are those of
+//! `run_model`. What the real streams give and take, no clause can say.
 #![tactic(auto)]
 
 mod command_line;
 mod digests;
 mod help;
-mod hex_words;
-mod lines;
-mod output;
+mod map_lines;
 mod process;
-mod program;
-mod put_lines;
+pub mod program;
 mod root_command;
-mod status;
+pub mod status;
 mod streams;
 #[cfg(test)]
 mod tests;

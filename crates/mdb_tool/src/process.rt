@@ -1,15 +1,17 @@
 // What the process does around the top call.
-ghost use Rattle.std.specs.Prelude.{◌≡◌, None, IfOk, IfErr, IfSome, IsSome, map, string_bytes};
+ghost use Rattle.std.specs.Prelude.{◌≡◌, ◌≢◌, IfOk, IfErr, IfSome, None, map, string_bytes};
 ghost use Rattle.std.specs.Process.{exit_status};
+ghost use Rattle.run_model.specs.Outside.{outside, output_seen};
+ghost use Rattle.run_model.specs.Runs.{Runs};
 ghost use Rattle.mdb_tool.specs.declared.status.Status.{Status};
 ghost use Rattle.mdb_tool.specs.Asked.{asked};
-ghost use Rattle.mdb_tool.specs.Process.{IsUntouched, Runs, Prints, Answers, Tells, EndsBy, told_line};
+ghost use Rattle.mdb_tool.specs.Ends.{end_of};
+ghost use Rattle.mdb_tool.specs.Process.{PrintsText, Answers, TellsEnd, EndsBy, end_line};
 
 use crate::help::{HELP, VERSION, asked_text};
-use crate::output::write_all;
 use crate::program::run;
 use crate::status::{Status, status_line, status_number};
-use mdb_base::{NoMemory, Sink, Source};
+use mdb_base::{NoMemory, Sink, Source, write_all};
 use std::alloc::Global;
 use std::process::ExitCode;
 
@@ -23,37 +25,40 @@ pub(crate) fn carry_out<S: Source, K: Sink, E: Sink>(
     err: &mut E,
 ) -> ExitCode
     // The words are answered by a status, which is told on `err` and gives the number.
-    ensures read { IfOk words (λ words. let given = map string_bytes words.items in (status : Status)
-        × Answers (asked HELP.now VERSION.now given) given
-        (S.left input.old) (S.left input.new) (S.faults input.old) (S.faults input.new)
-        (K.taken out.old) (K.taken out.new) (K.faults out.old) (K.faults out.new) status
-        × EndsBy status (E.taken err.old) (E.taken err.new) (E.faults err.old) (E.faults err.new) (exit_status result)) }
+    ensures answered { IfOk words (λ words. (status : Status) ×
+        (let given = map string_bytes words.items in
+        let before = outside (S.left input.old) (S.faults input.old) (K.taken out.old) (K.faults out.old) in
+        let after = outside (S.left input.new) (S.faults input.new) (K.taken out.new) (K.faults out.new) in
+        Answers (asked HELP.now VERSION.now given) given before after (end_of status))
+        × EndsBy (end_of status) (output_seen (E.taken err.old) (E.faults err.old)) (output_seen (E.taken err.new) (E.faults err.new)) (exit_status result)) }
 
-    // Words that could not be read have their status: it is told, and nothing else is done.
-    ensures unread { IfErr words (λ status.
-        EndsBy status (E.taken err.old) (E.taken err.new) (E.faults err.old) (E.faults err.new) (exit_status result)) }
-    ensures input { IfErr words (λ _. IsUntouched (S.left input.old) (S.left input.new) (S.faults input.old) (S.faults input.new)) }
-    ensures out { IfErr words (λ _. IsUntouched (K.taken out.old) (K.taken out.new) (K.faults out.old) (K.faults out.new)) }
+    // Words that could not be read have their status: it is told, and nothing else is touched.
+    ensures refused { IfErr words (λ status.
+        EndsBy (end_of status) (output_seen (E.taken err.old) (E.faults err.old)) (output_seen (E.taken err.new) (E.faults err.new)) (exit_status result)) }
+    ensures untouched { IfErr words (λ _.
+        outside (S.left input.new) (S.faults input.new) (K.taken out.new) (K.faults out.new)
+        ≡ outside (S.left input.old) (S.faults input.old) (K.taken out.old) (K.faults out.old)) }
 {
-    let status = answer_read(alloc, words, input, out);
+    let status = answer_given(alloc, words, input, out);
     report(alloc, &status, err);
     ExitCode::from(status_number(&status))
 }
 
 // Answers the words. Those that could not be read have their status already.
-fn answer_read<S: Source, K: Sink>(
+fn answer_given<S: Source, K: Sink>(
     alloc: Global,
     words: Result<Vec<String>, Status>,
     input: &mut S,
     out: &mut K,
 ) -> Status
-    ensures read { IfOk words (λ words. let given = map string_bytes words.items in
-        Answers (asked HELP.now VERSION.now given) given
-        (S.left input.old) (S.left input.new) (S.faults input.old) (S.faults input.new)
-        (K.taken out.old) (K.taken out.new) (K.faults out.old) (K.faults out.new) result) }
-    ensures unread { IfErr words (λ status. result ≡ status) }
-    ensures input { IfErr words (λ _. IsUntouched (S.left input.old) (S.left input.new) (S.faults input.old) (S.faults input.new)) }
-    ensures out { IfErr words (λ _. IsUntouched (K.taken out.old) (K.taken out.new) (K.faults out.old) (K.faults out.new)) }
+    ensures answered { IfOk words (λ words. let given = map string_bytes words.items in
+        let before = outside (S.left input.old) (S.faults input.old) (K.taken out.old) (K.faults out.old) in
+        let after = outside (S.left input.new) (S.faults input.new) (K.taken out.new) (K.faults out.new) in
+        Answers (asked HELP.now VERSION.now given) given before after (end_of result)) }
+    ensures refused { IfErr words (λ status. result ≡ status) }
+    ensures untouched { IfErr words (λ _.
+        outside (S.left input.new) (S.faults input.new) (K.taken out.new) (K.faults out.new)
+        ≡ outside (S.left input.old) (S.faults input.old) (K.taken out.old) (K.faults out.old)) }
 {
     match words {
         Ok(words) => answer(alloc, &words, input, out),
@@ -70,14 +75,14 @@ pub(crate) fn answer<S: Source, K: Sink>(
 ) -> Status
     // Where a text is asked for, it is written and nothing is read.
     ensures asked { IfSome (asked HELP.now VERSION.now (map string_bytes words.now)) (λ text.
-        Prints text (K.taken out.old) (K.taken out.new) (K.faults out.old) (K.faults out.new) result) }
-    ensures unread { IsSome (asked HELP.now VERSION.now (map string_bytes words.now)) →
-        IsUntouched (S.left input.old) (S.left input.new) (S.faults input.old) (S.faults input.new) }
-    // For all other words every clause of `run` holds.
-    ensures run { let given = map string_bytes words.now in asked HELP.now VERSION.now given ≡ None →
-        Runs given
-        (S.left input.old) (S.left input.new) (S.faults input.old) (S.faults input.new)
-        (K.taken out.old) (K.taken out.new) (K.faults out.old) (K.faults out.new) result }
+        let before = outside (S.left input.old) (S.faults input.old) (K.taken out.old) (K.faults out.old) in
+        let after = outside (S.left input.new) (S.faults input.new) (K.taken out.new) (K.faults out.new) in
+        PrintsText text before after (end_of result)) }
+    // For all other words all that a run promises holds.
+    ensures run { let given = map string_bytes words.now in
+        let before = outside (S.left input.old) (S.faults input.old) (K.taken out.old) (K.faults out.old) in
+        let after = outside (S.left input.new) (S.faults input.new) (K.taken out.new) (K.faults out.new) in
+        asked HELP.now VERSION.now given ≡ None → Runs given before after (end_of result) }
 {
     let Some(text) = asked_text(words) else {
         return run(alloc, words, input, out);
@@ -90,8 +95,8 @@ pub(crate) fn answer<S: Source, K: Sink>(
 
 /// Tells why the work is not finished. Where the sink fails, the number of the status alone tells.
 pub(crate) fn report<E: Sink>(alloc: Global, status: &Status, err: &mut E)
-    ensures quiet { status.now ≡ Status.Done → IsUntouched (E.taken err.old) (E.taken err.new) (E.faults err.old) (E.faults err.new) }
-    ensures told { (status.now ≡ Status.Done → ⊥) → Tells status.now (E.taken err.old) (E.taken err.new) (E.faults err.old) (E.faults err.new) }
+    ensures quiet { status.now ≡ Status.Done → output_seen (E.taken err.new) (E.faults err.new) ≡ output_seen (E.taken err.old) (E.faults err.old) }
+    ensures told { status.now ≢ Status.Done → TellsEnd (end_of status.now) (output_seen (E.taken err.old) (E.faults err.old)) (output_seen (E.taken err.new) (E.faults err.new)) }
 {
     if *status == Status::Done {
         return;
@@ -104,7 +109,7 @@ pub(crate) fn report<E: Sink>(alloc: Global, status: &Status, err: &mut E)
 
 // The line that tells of a status, with its end.
 fn ended_line(alloc: Global, status: &Status) -> Result<String, NoMemory>
-    ensures { IfOk result (λ line. string_bytes line ≡ told_line status.now) }
+    ensures { IfOk result (λ line. string_bytes line ≡ end_line (end_of status.now)) }
 {
     let mut line = status_line(alloc, status)?;
     line.push('\n')?;

@@ -1,14 +1,16 @@
 // The top call.
-ghost use Rattle.std.specs.Prelude.{◌≡◌, ◌↔◌, ℕ, Err, map, string_bytes};
-ghost use Rattle.base_model.specs.Faults.{Rose};
-ghost use Rattle.text_model.specs.Command.{command_of};
-ghost use Rattle.text_model.specs.Outcome.{outcome, decided, WrongLine, TooMuchInput};
-ghost use Rattle.mdb_tool.specs.Run.{Finishes, ComesTo, IsFinished, IsUndecided, PrintsPrefix, PrintsNothing, IsComplete};
+ghost use Rattle.std.specs.Prelude.{map, string_bytes};
+ghost use Rattle.run_model.specs.Outside.{outside};
+ghost use Rattle.run_model.specs.Outcome.{IsComplete};
+ghost use Rattle.run_model.specs.Runs.{outcome, command_outcome, command_runs, TellsWords, WordsTouchNothing, ReadHasCause, WriteHasCause, InputLimitHasCause, SharedRuns, RootPart};
+ghost use Rattle.bit_keys.specs.Branch.{width_of};
+ghost use Rattle.mdb_tool.specs.Ends.{end_of};
+ghost use Rattle.mdb_tool.specs.ReadWords.{seen_command};
 
 use crate::root_command::run_root;
 use crate::status::Status;
-use crate::words::{Command, read_words};
-use mdb_base::{LimitKind, Sink, Source};
+use crate::words::{Command, Job, read_words};
+use mdb_base::{Sink, Source};
 use std::alloc::Global;
 
 /// Does what the words ask for: word 1 is a folder, or `-` where none is used, word 2 the command.
@@ -21,31 +23,43 @@ pub fn run<S: Source, K: Sink>(
     input: &mut S,
     out: &mut K,
 ) -> Status
-    // The work is finished: the input was read to its end, and the sink took exactly the text of the outcome.
-    ensures done { result ≡ Status.Done → Finishes (outcome (map string_bytes words.now)) (S.left input.old) (S.left input.new) (K.taken out.old) (K.taken out.new) }
-    // With any status the sink took a prefix of that text, and nothing where the run was refused.
-    ensures prefix { PrintsPrefix (outcome (map string_bytes words.now)) (S.left input.old) (K.taken out.old) (K.taken out.new) }
-    ensures nothing { PrintsNothing result (K.taken out.old) (K.taken out.new) }
+    // The first wrong word is told exactly where there is one, and then nothing outside is touched.
+    ensures words { TellsWords (map string_bytes words.now) (end_of result) }
+    ensures untouched { let before = outside (S.left input.old) (S.faults input.old) (K.taken out.old) (K.faults out.old) in
+        let after = outside (S.left input.new) (S.faults input.new) (K.taken out.new) (K.faults out.new) in
+        WordsTouchNothing before after (end_of result) }
 
-    // The words come first: where one is wrong, nothing is read.
-    ensures unread { (i : ℕ) → result ≡ Status.BadWords i → (S.left input.new ≡ S.left input.old) × (S.faults input.new ≡ S.faults input.old) }
+    // The cause of each status that is one for all commands.
+    ensures read { ReadHasCause (S.faults input.old) (S.faults input.new) (end_of result) }
+    ensures write { WriteHasCause (K.faults out.old) (K.faults out.new) (end_of result) }
+    ensures limit { InputLimitHasCause (S.left input.old) (end_of result) }
 
-    // When each other status comes.
-    ensures words { (i : ℕ) → (result ≡ Status.BadWords i) ↔ (command_of (map string_bytes words.now) ≡ Err i) }
-    ensures line { (n : ℕ) → result ≡ Status.BadLine n → ComesTo (outcome (map string_bytes words.now)) (S.left input.old) (WrongLine n) }
-    ensures limit { result ≡ Status.Limit LimitKind.Input → ComesTo (outcome (map string_bytes words.now)) (S.left input.old) TooMuchInput }
-    ensures read { result ≡ Status.Read → Rose (S.faults input.old) (S.faults input.new) }
-    ensures undecided { result ≡ Status.Read → IsUndecided (decided (map string_bytes words.now)) (S.left input.old) (S.left input.new) }
-    ensures write { result ≡ Status.Write → Rose (K.faults out.old) (K.faults out.new) × IsFinished (outcome (map string_bytes words.now)) (S.left input.old) }
+    // Where nothing outside fails, the run comes to its outcome, or memory ran out.
+    ensures complete { let before = outside (S.left input.old) (S.faults input.old) (K.taken out.old) (K.faults out.old) in
+        let after = outside (S.left input.new) (S.faults input.new) (K.taken out.new) (K.faults out.new) in
+        IsComplete (outcome (map string_bytes words.now)) before after (end_of result) }
 
-    // Where nothing outside fails, the status is that of the outcome, or memory ran out.
-    ensures complete { IsComplete (outcome (map string_bytes words.now)) (S.left input.old) (S.faults input.old) (S.faults input.new) (K.faults out.old) (K.faults out.new) result }
+    // What the runs of each command promise besides.
+    ensures root { let before = outside (S.left input.old) (S.faults input.old) (K.taken out.old) (K.faults out.old) in
+        let after = outside (S.left input.new) (S.faults input.new) (K.taken out.new) (K.faults out.new) in
+        RootPart (map string_bytes words.now) before after (end_of result) }
 {
-    let command = match read_words(words) {
-        Ok(command) => command,
-        Err(place) => return Status::BadWords(place),
-    };
-    match command {
-        Command::Root(branch) => run_root(alloc, branch, input, out),
+    match read_words(words) {
+        Ok(job) => run_job(alloc, job, input, out),
+        Err(place) => Status::BadWords(place),
+    }
+}
+
+// Does a job, by the function of its command.
+fn run_job<S: Source, K: Sink>(alloc: Global, job: Job, input: &mut S, out: &mut K) -> Status
+    ensures shared { let before = outside (S.left input.old) (S.faults input.old) (K.taken out.old) (K.faults out.old) in
+        let after = outside (S.left input.new) (S.faults input.new) (K.taken out.new) (K.faults out.new) in
+        SharedRuns (command_outcome (seen_command job.command) (width_of job.branch)) before after (end_of result) }
+    ensures runs { let before = outside (S.left input.old) (S.faults input.old) (K.taken out.old) (K.faults out.old) in
+        let after = outside (S.left input.new) (S.faults input.new) (K.taken out.new) (K.faults out.new) in
+        command_runs (seen_command job.command) (width_of job.branch) before after (end_of result) }
+{
+    match job.command {
+        Command::Root => run_root(alloc, job.branch, input, out),
     }
 }

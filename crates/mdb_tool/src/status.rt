@@ -1,6 +1,8 @@
 // How a run ends.
 ghost use Rattle.std.specs.Prelude.{◌≡◌, IfOk, string_bytes};
-ghost use Rattle.mdb_tool.specs.StatusText.{status_text, number_of_status};
+ghost use Rattle.run_model.specs.End.{end_text, end_number};
+ghost use Rattle.text_model.specs.Texts.{limit_word};
+ghost use Rattle.mdb_tool.specs.Ends.{end_of, limit_of};
 
 use mdb_base::{LimitKind, NoMemory};
 use std::alloc::Global;
@@ -25,9 +27,21 @@ pub enum Status {
     NoMemory,
 }
 
+// The word of a limit.
+fn limit_name(kind: LimitKind) -> &'static str
+    ensures { result.now ≡ limit_word (limit_of kind) }
+{
+    match kind {
+        LimitKind::Input => "input",
+        LimitKind::Pairs => "pairs",
+        LimitKind::Batch => "batch",
+        LimitKind::Answers => "answers",
+    }
+}
+
 /// The line that tells of a status, without its end.
 pub fn status_line(alloc: Global, status: &Status) -> Result<String, NoMemory>
-    ensures { IfOk result (λ text. string_bytes text ≡ status_text status.now) }
+    ensures { IfOk result (λ text. string_bytes text ≡ end_text (end_of status.now)) }
 {
     let text = match status {
         Status::Done => String::from_str(alloc, "mdb: done")?,
@@ -39,7 +53,10 @@ pub fn status_line(alloc: Global, status: &Status) -> Result<String, NoMemory>
             let number = *number;
             format!(in alloc; "mdb: line {number} is not understood")?
         }
-        Status::Limit(LimitKind::Input) => String::from_str(alloc, "mdb: limit input")?,
+        Status::Limit(kind) => {
+            let name = limit_name(*kind);
+            format!(in alloc; "mdb: limit {name}")?
+        }
         Status::Read => String::from_str(alloc, "mdb: reading failed")?,
         Status::Write => String::from_str(alloc, "mdb: writing failed")?,
         Status::NoMemory => String::from_str(alloc, "mdb: no memory")?,
@@ -49,7 +66,7 @@ pub fn status_line(alloc: Global, status: &Status) -> Result<String, NoMemory>
 
 /// The number with which the process ends.
 pub fn status_number(status: &Status) -> u8
-    ensures { result ≡ number_of_status status.now }
+    ensures { result ≡ end_number (end_of status.now) }
 {
     match status {
         Status::Done => 0,

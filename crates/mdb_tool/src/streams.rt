@@ -2,8 +2,7 @@
 ghost use Rattle.std.specs.Prelude.{◌≡◌, ◌≤◌, None};
 ghost use Rattle.std.specs.Io.{ReadsAtMost, WritesAtMost};
 ghost use Rattle.std.specs.Io.KnownBytes.{ReadConsumes, WriteAppends};
-ghost use Rattle.base_model.specs.Faults.{HasCause, TookNothing, TellsAlike};
-ghost use Rattle.mdb_base.specs.InMemory.{CountsFaults, one_more};
+ghost use Rattle.base_model.specs.Faults.{HasCause, TookNothing, TellsAlike, CountsFaults, one_more};
 ghost use Rattle.mdb_tool.specs.Counts.{CountsWrites, untold};
 
 use mdb_base::{Failed, Sink, Source};

@@ -1,7 +1,7 @@
-mod Made
-mod Last
-pub mod Counted
-pub mod Cut
-pub mod Decided
-mod Printed
-mod Rows
+pub mod FirstBad
+pub mod LinesWithin
+pub mod SettledLines
+pub mod MapOfLines
+pub mod LastLine
+pub mod RootText
+pub mod WorkedLines

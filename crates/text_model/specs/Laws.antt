@@ -1,53 +1,54 @@
--- Laws of lines: what they make, which of them is the first bad one, and which of them are read of a long input;
--- and of what the first bytes of an input decide.
-use Rattle.std.specs.Prelude.{◌≢◌, ◌⊎◌, Option, ◌≡◌, ◌↔◌, ℕ, ◌+◌, ◌≤◌, List, [], ◌∷◌, ◌++◌, length, Some, None, IsSome}
+-- Laws of lines: which are good, what they make, which of them is the first bad one, and which of them are read of a long input.
+use Rattle.std.specs.Prelude.{◌≢◌, Bool, true, false, ◌≡◌, ◌↔◌, ℕ, ◌+◌, ◌≤◌, List, ◌∷◌, ◌++◌, length, Some, None, Result, Ok, Err, IsTrue}
 use Rattle.std.specs.List.{AllByRecursion}
 use Rattle.std.specs.FinMap.{get}
 use Rattle.std.specs.Str.Lines.{lines}
 use Rattle.base_model.specs.Bytes.{AreBytes}
 use Rattle.trie_model.specs.Maps.{Map, IsMap, limits, root}
-use Rattle.text_model.specs.Lines.{lines_within}
-use Rattle.text_model.specs.PutLines.{Line, Skip, Put, Del, line_of, first_bad}
+use Rattle.text_model.specs.Lines.{is_overlong, lines_within}
+use Rattle.text_model.specs.LineKind.{LineKind}
+use Rattle.text_model.specs.ReadLine.{InputKind, Batch, Line, Skip, Put, Del, read_line, is_line}
+use Rattle.text_model.specs.FirstBad.{first_bad}
+use Rattle.text_model.specs.MapOfLines.{map_of_lines}
 use Rattle.text_model.specs.Texts.{root_text}
-use Rattle.text_model.specs.Outcome.{Outcome, Finished, map_of_lines, outcome, decided}
 
 -- what lines make is a map of byte strings within the limits of keys and values
 abbrev pub LinesMakeMaps : Type 0
-LinesMakeMaps = (rows : List (List ℕ)) → IsMap limits (map_of_lines rows)
+LinesMakeMaps = (lines : List (List ℕ)) → IsMap limits (map_of_lines lines)
 
--- a line says nothing of a key
-abbrev pub IsSilentOn : List ℕ → Option Line → Type 0
-IsSilentOn k None = Unit {0}
-IsSilentOn k (Some Skip) = Unit {0}
-IsSilentOn k (Some (Put key value)) = key ≢ k
-IsSilentOn k (Some (Del key)) = key ≢ k
+-- a line, as it is read, says nothing of a key
+abbrev pub IsSilentOn : List ℕ → Result Line LineKind → Type 0
+IsSilentOn k (Err kind) = Unit {0}
+IsSilentOn k (Ok Skip) = Unit {0}
+IsSilentOn k (Ok (Put key value)) = key ≢ k
+IsSilentOn k (Ok (Del key)) = key ≢ k
 
 abbrev pub AreSilentOn : List ℕ → List (List ℕ) → Type 0
-AreSilentOn k = AllByRecursion (λ row. IsSilentOn k (line_of row))
+AreSilentOn k = AllByRecursion (λ line. IsSilentOn k (read_line Batch line))
 
 -- the last line on a key tells what the map has there, whatever lines stand before it; where no line is on it the map has nothing there
 pub record LastLineCounts : Type 0 where
-  pub put : (k v : List ℕ) (before after : List (List ℕ)) (row : List ℕ) → line_of row ≡ Some (Put k v) → AreSilentOn k after → get (map_of_lines (before ++ row ∷ after)) k ≡ Some v
-  pub del : (k : List ℕ) (before after : List (List ℕ)) (row : List ℕ) → line_of row ≡ Some (Del k) → AreSilentOn k after → get (map_of_lines (before ++ row ∷ after)) k ≡ None
-  pub none : (k : List ℕ) (rows : List (List ℕ)) → AreSilentOn k rows → get (map_of_lines rows) k ≡ None
+  pub put : (k v : List ℕ) (before after : List (List ℕ)) (line : List ℕ) → read_line Batch line ≡ Ok (Put k v) → AreSilentOn k after → get (map_of_lines (before ++ line ∷ after)) k ≡ Some v
+  pub del : (k : List ℕ) (before after : List (List ℕ)) (line : List ℕ) → read_line Batch line ≡ Ok (Del k) → AreSilentOn k after → get (map_of_lines (before ++ line ∷ after)) k ≡ None
+  pub none : (k : List ℕ) (lines : List (List ℕ)) → AreSilentOn k lines → get (map_of_lines lines) k ≡ None
 
--- every line is in the grammar
-abbrev pub AreGood : List (List ℕ) → Type 0
-AreGood = AllByRecursion (λ row. IsSome (line_of row))
+-- every line passes a test
+abbrev pub AreGood : (List ℕ → Bool) → List (List ℕ) → Type 0
+AreGood good = AllByRecursion (λ line. IsTrue (good line))
 
--- a line outside the grammar stands at this place, counted from 1, and every line before it is in the grammar
-pub record IsFirstBad (rows : List (List ℕ)) (n : ℕ) : Type 0 where
+-- a line that fails a test stands at this place, counted from 1, and every line before it passes
+pub record IsFirstBad (good : List ℕ → Bool) (lines : List (List ℕ)) (n : ℕ) : Type 0 where
   pub before : List (List ℕ)
-  pub row : List ℕ
+  pub line : List ℕ
   pub after : List (List ℕ)
-  pub parts : rows ≡ before ++ row ∷ after
+  pub parts : lines ≡ before ++ line ∷ after
   pub place : n ≡ length before + 1
-  pub good : AreGood before
-  pub bad : line_of row ≡ None
+  pub passed : AreGood good before
+  pub bad : good line ≡ false
 
--- the number of a bad line is that of the first one, and there is none exactly where every line is in the grammar
+-- by any test, the number of a bad line is that of the first one, and there is none exactly where every line passes
 abbrev pub FirstBadLine : Type 0
-FirstBadLine = (rows : List (List ℕ)) → ((n : ℕ) → (first_bad 1 rows ≡ Some n) ↔ IsFirstBad rows n) × ((first_bad 1 rows ≡ None) ↔ AreGood rows)
+FirstBadLine = (good : List ℕ → Bool) (lines : List (List ℕ)) → ((n : ℕ) → (first_bad good 1 lines ≡ Some n) ↔ IsFirstBad good lines n) × ((first_bad good 1 lines ≡ None) ↔ AreGood good lines)
 
 -- one byte past the limit, what follows makes no difference to the lines within it; and an input within its limit has all its lines
 abbrev pub CutLines : Type 0
@@ -55,21 +56,17 @@ CutLines =
     ((limit : ℕ) (front x y : List ℕ) → length front ≡ limit + 1 → lines_within limit (front ++ x) ≡ lines_within limit (front ++ y))
     × ((limit : ℕ) (bytes : List ℕ) → length bytes ≤ limit → lines_within limit bytes ≡ lines bytes)
 
--- a bad line within the limit is the first bad line of the whole input, however long that is
+-- a test that no line of too many bytes passes
+abbrev pub RefusesOverlong : (List ℕ → Bool) → Type 0
+RefusesOverlong good = (line : List ℕ) → is_overlong line ≡ true → good line ≡ false
+
+-- by a test that refuses lines of too many bytes, a bad line within the limit is the first bad line of the whole input, however long that is
 abbrev pub BadLineStays : Type 0
-BadLineStays = (limit : ℕ) (bytes : List ℕ) (n : ℕ) → first_bad 1 (lines_within limit bytes) ≡ Some n → first_bad 1 (lines bytes) ≡ Some n
+BadLineStays = (good : List ℕ → Bool) → RefusesOverlong good → (limit : ℕ) (bytes : List ℕ) (n : ℕ) → first_bad good 1 (lines_within limit bytes) ≡ Some n → first_bad good 1 (lines bytes) ≡ Some n
 
--- what is decided is the outcome, whatever bytes follow
-abbrev pub DecidedStays : Type 0
-DecidedStays = (words : List (List ℕ)) (front rest : List ℕ) (o : Outcome) → decided words front ≡ Some o → outcome words (front ++ rest) ≡ o
-
--- no bytes, or bytes whose last one is a newline
-abbrev pub AreWholeLines : List ℕ → Type 0
-AreWholeLines bytes = (bytes ≡ []) ⊎ ((begun : List ℕ) × (bytes ≡ begun ++ 10 ∷ []))
-
--- where nothing is decided after whole lines, the run is finished if the input ends there
-abbrev pub UndecidedFinishes : Type 0
-UndecidedFinishes = (words : List (List ℕ)) (front : List ℕ) → decided words front ≡ None → AreWholeLines front → (text : List ℕ) × (outcome words front ≡ Finished text)
+-- whether a line is understood is such a test
+abbrev pub OverlongLinesAreBad : Type 0
+OverlongLinesAreBad = (kind : InputKind) → RefusesOverlong (is_line kind)
 
 -- the line of a root has 64 digits between `root ` and its end, and the lines of two roots differ where the roots do
 pub record RootLines : Type 0 where

@@ -1,8 +1,9 @@
 pub mod Lines
 pub mod Words
-pub mod PutLines
+pub mod LineKind
+pub mod ReadLine
+pub mod FirstBad
+pub mod MapOfLines
 pub mod Texts
-pub mod Command
-pub mod Outcome
 pub mod Laws
-pub mod Rows
+pub mod WorkedLines

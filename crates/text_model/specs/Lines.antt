@@ -1,6 +1,6 @@
 -- The lines of an input. A line ends at a newline, 0a; one carriage return, 0d, before it is no part of the
 -- line. The last line may lack its end, and then a carriage return at its end is part of it.
-use Rattle.std.specs.Prelude.{ℕ, ◌==◌, Bool, if◌then◌else◌, nat_lt, nat_le, List, [], ◌∷◌, length, take}
+use Rattle.std.specs.Prelude.{ℕ, ◌≡◌, ◌⊎◌, ◌==◌, Bool, if◌then◌else◌, nat_lt, nat_le, List, [], ◌∷◌, ◌++◌, length, take}
 use Rattle.std.specs.List.{slice_split}
 use Rattle.std.specs.Str.Lines.{lines, strip_carriage_return}
 
@@ -36,3 +36,7 @@ settled_lines front = lines_of_cut (slice_split is_newline front)
 -- the lines of an input of which at most so many bytes are read: all its lines, or those that are settled within that many bytes
 abbrev pub lines_within : ℕ → List ℕ → List (List ℕ)
 lines_within limit bytes = if nat_le (length bytes) limit then lines bytes else settled_lines (take limit bytes)
+
+-- no bytes, or bytes whose last one is a newline
+abbrev pub AreWholeLines : List ℕ → Type 0
+AreWholeLines bytes = (bytes ≡ []) ⊎ ((begun : List ℕ) × (bytes ≡ begun ++ 10 ∷ []))

@@ -15,8 +15,25 @@ word_text place = codes "mdb: word " ++ decimal place ++ codes " is not understo
 abbrev pub line_text : ℕ → List ℕ
 line_text number = codes "mdb: line " ++ decimal number ++ codes " is not understood"
 
-abbrev pub input_limit_text : List ℕ
-input_limit_text = codes "mdb: limit input"
+-- which limit of a run was passed
+pub data LimitKind : Type 0 where
+  -- the bytes of its input
+  Input : LimitKind
+  -- the pairs of a store
+  Pairs : LimitKind
+  -- the bytes of a batch, or the number of batches
+  Batch : LimitKind
+  -- the answers that are accepted
+  Answers : LimitKind
+
+abbrev pub limit_word : LimitKind → List ℕ
+limit_word Input = codes "input"
+limit_word Pairs = codes "pairs"
+limit_word Batch = codes "batch"
+limit_word Answers = codes "answers"
+
+abbrev pub limit_text : LimitKind → List ℕ
+limit_text kind = codes "mdb: limit " ++ limit_word kind
 
 abbrev pub read_text : List ℕ
 read_text = codes "mdb: reading failed"

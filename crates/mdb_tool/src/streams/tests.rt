@@ -1,5 +1,5 @@
 use super::*;
-use crate::output::write_all;
+use mdb_base::write_all;
 use std::test::Fail;
 
 #[test]

@@ -1,4 +1,4 @@
-use Rattle.text_model.proofs.Cut.{bad_line_stays}
+use Rattle.text_model.proofs.LinesWithin.{bad_line_stays}
 use Rattle.text_model.proofs.bad_line_stays.Goals as goal
 
 pub returns : goal.returns

@@ -1,4 +1,4 @@
-use Rattle.text_model.proofs.Cut.{cut_lines}
+use Rattle.text_model.proofs.LinesWithin.{cut_lines}
 use Rattle.text_model.proofs.cut_lines.Goals as goal
 
 pub returns : goal.returns

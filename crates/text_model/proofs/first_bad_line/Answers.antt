@@ -1,4 +1,4 @@
-use Rattle.text_model.proofs.Counted.{first_bad_line}
+use Rattle.text_model.proofs.FirstBad.{first_bad_line}
 use Rattle.text_model.proofs.first_bad_line.Goals as goal
 
 pub returns : goal.returns

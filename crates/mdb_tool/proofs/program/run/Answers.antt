@@ -1,10 +1,15 @@
-use Rattle.std.proofs.Common.{rules, map, string_bytes}
-use Rattle.mdb_tool.proofs.RootOutcome.{undecided_words}
+use Rattle.std.proofs.Common.{◌≡◌, sym, ◌∙◌, subst}
+use Rattle.run_model.specs.Command.{Root, Job}
+use Rattle.run_model.specs.Outside.{outside}
+use Rattle.run_model.specs.Runs.{command_runs}
+use Rattle.mdb_tool.specs.Ends.{end_of}
+use Rattle.mdb_tool.specs.ReadWords.{seen_job}
 use Rattle.mdb_tool.proofs.program.run.Goals as goal
 
-pub returns-clause-line : goal.returns-clause-line
-returns-clause-line g c = λ n is. let comes = c.run_root.ensures.line n is in search (rules, comes)
-
-pub returns-clause-undecided : goal.returns-clause-undecided
-returns-clause-undecided g c = λ is.
-    undecided_words (map string_bytes c.args.words.now) c.in-Ok.command 0 (g.S.Source.left c.args.input.now) (g.S.Source.left c.run_root.new.input) c.in-Ok.ensures (c.run_root.ensures.undecided is)
+pub returns-in-Ok-clause-root : goal.returns-in-Ok-clause-root
+returns-in-Ok-clause-root g c = λ w is.
+    let asked : Job = record { width = w; command = Root } in
+    let same : seen_job c.in-Ok.job ≡ asked = cc (sym c.in-Ok.ensures ∙ is) in
+    let before = outside (g.S.Source.left c.args.input.now) (g.S.Source.faults c.args.input.now) (g.K.Sink.taken c.args.out.now) (g.K.Sink.faults c.args.out.now) in
+    let after = outside (g.S.Source.left c.run_job.new.input) (g.S.Source.faults c.run_job.new.input) (g.K.Sink.taken c.run_job.new.out) (g.K.Sink.faults c.run_job.new.out) in
+    subst (λ (job : Job). command_runs job.command job.width before after (end_of c.run_job.result)) same c.run_job.ensures.runs

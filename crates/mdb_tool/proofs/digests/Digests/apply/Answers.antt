@@ -1,4 +1,4 @@
-use Rattle.mdb_tool.proofs.MapLemmas.{map_digests-insert, map_digests-remove}
+use Rattle.mdb_tool.proofs.MapDigests.{map_digests-insert, map_digests-remove}
 use Rattle.mdb_tool.proofs.digests.Digests.apply.Goals as goal
 
 pub returns-in-Put-clause-ok : goal.returns-in-Put-clause-ok

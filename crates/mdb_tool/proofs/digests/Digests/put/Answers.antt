@@ -2,7 +2,7 @@ use Rattle.std.proofs.Common.{ap, ◌∙◌, map}
 use Rattle.std.specs.FinMap.Entries.{put}
 use Rattle.base_model.specs.Bytes.{bytes_cmp}
 use Rattle.trie_model.proofs.PlainEntries.{plain, plain-insert_entry}
-use Rattle.mdb_tool.proofs.MapLemmas.{key_items}
+use Rattle.mdb_tool.proofs.MapDigests.{key_items}
 use Rattle.mdb_tool.proofs.digests.Digests.put.Goals as goal
 
 pub returns-clause-ok : goal.returns-clause-ok

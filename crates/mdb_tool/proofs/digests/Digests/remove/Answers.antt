@@ -3,7 +3,7 @@ use Rattle.std.specs.Map.{remove_entry}
 use Rattle.std.specs.BTreeMap.{is_at}
 use Rattle.base_model.specs.Bytes.{bytes_cmp}
 use Rattle.trie_model.proofs.PlainEntries.{plain, plain-remove_entry}
-use Rattle.mdb_tool.proofs.MapLemmas.{key_items}
+use Rattle.mdb_tool.proofs.MapDigests.{key_items}
 use Rattle.mdb_tool.proofs.digests.Digests.remove.Goals as goal
 
 pub returns : goal.returns

@@ -3,7 +3,7 @@ use Rattle.std.specs.Map.{keys_of}
 use Rattle.std.specs.List.Sorted.{IsStrictlySortedBy}
 use Rattle.trie_model.proofs.Entries.{IsAscending}
 use Rattle.trie_model.proofs.PlainEntries.{plain, key_order, plain-IsAscending, ascending_before}
-use Rattle.mdb_tool.proofs.MapLemmas.{key_items}
+use Rattle.mdb_tool.proofs.MapDigests.{key_items}
 use Rattle.mdb_tool.proofs.digests.Digests.root.Goals as goal
 
 pub add-requires : goal.add-requires

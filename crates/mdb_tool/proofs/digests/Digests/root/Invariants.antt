@@ -1,6 +1,6 @@
 use Rattle.std.proofs.Common.{◌≡◌, ◌++◌, map}
 use Rattle.trie_model.proofs.PlainEntries.{plain}
-use Rattle.mdb_tool.proofs.MapLemmas.{key_items}
+use Rattle.mdb_tool.proofs.MapDigests.{key_items}
 use Rattle.mdb_tool.proofs.digests.Digests.root.Given as goal
 
 abbrev pub invariant-loop-key : goal.invariant-loop-key

@@ -1,0 +1,4 @@
+pub mod Stream
+pub mod SeenLine
+pub mod WordsOfLine
+pub mod HexDigits

@@ -1,0 +1,25 @@
+-- The words at the front of a line, as they are found.
+use Rattle.std.specs.Prelude.{◌≡◌, ◌≢◌, ℕ, List, [], ◌∷◌, Option, Some, None, true, false, length, All}
+use Rattle.std.specs.Borrow.{Bor}
+use Rattle.text_model.specs.Words.{is_blank, words_of}
+
+abbrev pub AreBlanks : List ℕ → Type 0
+AreBlanks line = All (λ b. is_blank b ≡ true) line
+
+abbrev pub HasNoBlank : List ℕ → Type 0
+HasNoBlank word = All (λ b. is_blank b ≡ false) word
+
+-- the first word and the rest of a line, or none where it has no word
+abbrev pub IsNextWord : Option (Bor (List ℕ) × Bor (List ℕ)) → List ℕ → Type 0
+IsNextWord None line = words_of line ≡ []
+IsNextWord (Some found) line = words_of line ≡ found.0.now ∷ words_of found.1.now
+
+-- the word of a line that has one, or none where it has another number of them
+abbrev pub IsOnlyWord : Option (Bor (List ℕ)) → List ℕ → Type 0
+IsOnlyWord None line = length (words_of line) ≢ 1
+IsOnlyWord (Some word) line = words_of line ≡ word.now ∷ []
+
+-- the words of a line that has two, or none where it has another number of them
+abbrev pub AreTwoWords : Option (Bor (List ℕ) × Bor (List ℕ)) → List ℕ → Type 0
+AreTwoWords None line = length (words_of line) ≢ 2
+AreTwoWords (Some words) line = words_of line ≡ words.0.now ∷ words.1.now ∷ []

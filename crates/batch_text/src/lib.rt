@@ -1,0 +1,16 @@
+//! Lines of text: what a line asks for, or why it is not understood, and a reader that gives the
+//! lines of a source one after another.
+//!
+//! It stands on `mdb_base` and on the words of `text_model`. A `LineFault` says which line is not
+//! understood, and why; a `ReaderFault` says why no line is given. Which lines an input may have is
+//! its `InputKind`. Lines end at newlines, and bytes are not asked to be UTF-8.
+#![tactic(auto)]
+
+mod digits;
+mod hex_words;
+mod line;
+mod reader;
+mod words;
+
+pub use line::{InputKind, KeyBytes, Line, LineFault, LineKind, read_line};
+pub use reader::{LineReader, ReaderFault};

@@ -1,0 +1,3 @@
+pub mod RootDecided
+pub mod Decided
+pub mod WorkedRuns

@@ -1,0 +1,128 @@
+-- The worked runs, by computing.
+use Rattle.std.proofs.Common.{◌≡◌, ℕ, Bool, true, false, not, cond, List, [], ◌∷◌, ◌++◌, length, map, replicate, refl, sym, ap, ◌∙◌, Option, None, Result, Ok, Err, arith}
+use Rattle.std.specs.Prelude.{codes}
+use Rattle.std.specs.Ordering.{eq_by_cmp}
+use Rattle.std.specs.FinMap.{get, remove, empty, entries, entries_sorted, entries-insert, get-remove, get-entries, len-entries, len-empty}
+use Rattle.std.specs.Cmp.{eq_by_cmp_equiv}
+use Rattle.std.specs.FinMap.Entries.{put, where_key, is_sorted-where_key, find-where_key, same_entries}
+use Rattle.std.proofs.lemmas.Cmp.{nat_list_cmp_total}
+use Rattle.sha2.specs.Sha256.{sha256}
+use Rattle.hex.specs.Hex.{encode_with, decode_pairs}
+use Rattle.base_model.specs.Bytes.{bytes_cmp}
+use Rattle.base_model.specs.Uvarint.{uvarint}
+use Rattle.trie_model.specs.Hashing.{zero_id, hashed_string, value_digest}
+use Rattle.trie_model.specs.Ids.{id, id_within, children}
+use Rattle.trie_model.specs.Maps.{Map, entry_item, root}
+use Rattle.trie_model.proofs.Entries.{tied_equal}
+use Rattle.text_model.specs.Lines.{input_limit, lines_within}
+use Rattle.text_model.specs.LineKind.{LineKind}
+use Rattle.text_model.specs.ReadLine.{Batch, Line, Skip, Put, Del, read_line}
+use Rattle.text_model.specs.MapOfLines.{after_read, after_lines, map_of_lines}
+use Rattle.text_model.specs.Texts.{root_text}
+use Rattle.run_model.specs.Outcome.{Outcome}
+use Rattle.run_model.specs.Worked.{prints, PrintsOnePair, PrintsZeros, OnePairRuns, EmptyRuns, WrongWordRuns, WrongLineRuns, KeyLimitRuns}
+
+-- ---- the pairs that lines make, as a list that computes
+-- a key is another one than k
+abbrev other : List ℕ → List ℕ → Bool
+other k x = not (eq_by_cmp bytes_cmp k x)
+
+abbrev pairs_after : List (List ℕ × List ℕ) → Result Line LineKind → List (List ℕ × List ℕ)
+pairs_after es (Err kind) = es
+pairs_after es (Ok Skip) = es
+pairs_after es (Ok (Put key value)) = put bytes_cmp key value es
+pairs_after es (Ok (Del key)) = where_key bytes_cmp (other key) es
+
+abbrev pairs_of : List (List ℕ × List ℕ) → List (List ℕ) → List (List ℕ × List ℕ)
+pairs_of es [] = es
+pairs_of es (line ∷ lines) = pairs_of (pairs_after es (read_line Batch line)) lines
+
+turned : (b : Bool) (o : Option (List ℕ)) → cond b None o ≡ cond (not b) o None
+turned true o = refl
+turned false o = refl
+
+-- the entries of a map without a key are those with other keys
+entries-remove : (m : Map) (k : List ℕ) → entries (remove m k) ≡ where_key bytes_cmp (other k) (entries m)
+entries-remove m k = same_entries bytes_cmp nat_list_cmp_total tied_equal (entries (remove m k)) (where_key bytes_cmp (other k) (entries m)) (entries_sorted (remove m k)) (is_sorted-where_key bytes_cmp (other k) (entries m) (entries_sorted m)) (λ q.
+    sym (get-entries (remove m k) q)
+    ∙ get-remove nat_list_cmp_total m k q
+    ∙ ap (λ b. cond b None (get m q)) ((eq_by_cmp_equiv nat_list_cmp_total).symm q k)
+    ∙ turned (eq_by_cmp bytes_cmp k q) (get m q)
+    ∙ ap (λ o. cond (other k q) o None) (get-entries m q)
+    ∙ sym (find-where_key bytes_cmp (other k) q (λ x t. ap (other k) (sym (tied_equal q x t))) (entries m)))
+
+entries-after : (m : Map) (r : Result Line LineKind) → entries (after_read m r) ≡ pairs_after (entries m) r
+entries-after m (Err kind) = refl
+entries-after m (Ok Skip) = refl
+entries-after m (Ok (Put key value)) = entries-insert nat_list_cmp_total m key value
+entries-after m (Ok (Del key)) = entries-remove m key
+
+entries-of : (m : Map) (lines : List (List ℕ)) → entries (after_lines m lines) ≡ pairs_of (entries m) lines
+entries-of m [] = refl
+entries-of m (line ∷ lines) = entries-of (after_read m (read_line Batch line)) lines ∙ ap (λ es. pairs_of es lines) (entries-after m (read_line Batch line))
+
+no_entries : {A : Type 0} (es : List A) → length es ≡ 0 → es ≡ []
+no_entries [] h = refl
+no_entries (e ∷ es) h = absurd (omega arith)
+
+entries-empty : ◌≡◌ {A = List (List ℕ × List ℕ)} (entries {R = bytes_cmp} empty) []
+entries-empty = no_entries (entries empty) (sym (len-entries empty) ∙ len-empty bytes_cmp (List ℕ))
+
+entries-lines : (lines : List (List ℕ)) → entries (map_of_lines lines) ≡ pairs_of [] lines
+entries-lines lines = entries-of empty lines ∙ ap (λ es. pairs_of es lines) entries-empty
+
+-- what an input of these lines comes to, where they make these pairs
+printed : (lines : List (List ℕ)) (es : List (List ℕ × List ℕ)) → pairs_of [] lines ≡ es → prints (root_text (root 4 (map_of_lines lines))) ≡ prints (root_text (id 4 (map entry_item es)))
+printed lines es h = ap (λ es. prints (root_text (id 4 (map entry_item es)))) (entries-lines lines ∙ h)
+
+-- the pair of 76 at 6b
+one_pair : List (List ℕ × List ℕ)
+one_pair = (0x6b ∷ [], 0x76 ∷ []) ∷ []
+
+one_pair_root : id 4 (map entry_item one_pair) ≡ sha256 (0x00 ∷ 0x01 ∷ 0x01 ∷ 0x76 ∷ 0x08 ∷ 0x6b ∷ [])
+unfolding one_pair id id_within children uvarint hashed_string value_digest
+one_pair_root = refl
+
+-- lines that make that pair
+prints_one : (lines : List (List ℕ)) → pairs_of [] lines ≡ one_pair → PrintsOnePair (prints (root_text (root 4 (map_of_lines lines))))
+prints_one lines h = printed lines one_pair h ∙ ap (λ r. prints (root_text r)) one_pair_root
+
+zeros_text : root_text (id 4 []) ≡ codes "root " ++ replicate 64 0x30 ++ 0x0a ∷ []
+unfolding id id_within zero_id encode_with
+zeros_text = refl
+
+-- lines that make nothing
+prints_zeros : (lines : List (List ℕ)) → pairs_of [] lines ≡ [] → PrintsZeros (prints (root_text (root 4 (map_of_lines lines))))
+prints_zeros lines h = printed lines [] h ∙ ap prints zeros_text
+
+lines_of : List ℕ → List (List ℕ)
+lines_of bytes = lines_within input_limit bytes
+
+pub one_pair_runs : OnePairRuns
+unfolding decode_pairs one_pair lines_of
+one_pair_runs = (
+  prints_one (lines_of (codes "put 6b 76\n")) refl,
+  prints_one (lines_of (codes "put 6b 76\r\n")) refl,
+  prints_one (lines_of (codes "put 6b 76")) refl,
+  prints_one (lines_of (codes " \tput\t6B  76 \n")) refl,
+  prints_one (lines_of (codes "# put 6b 75\n\n \t\nput 6b 76\n\r\n#")) refl,
+  prints_one (lines_of (codes "put 6b 75\nput 6b 76\n")) refl,
+  prints_one (lines_of (codes "put 6b 75\ndel 6b\nput 6b 76\n")) refl,
+  prints_one (lines_of (codes "put 6b 76\ndel 6c\n")) refl,
+  prints_one (lines_of (codes "del 6b\nput 6b 76\ndel -\n")) refl,
+)
+
+pub empty_runs : EmptyRuns
+unfolding decode_pairs lines_of
+empty_runs = (prints_zeros (lines_of []) refl, prints_zeros (lines_of (codes "\n")) refl, prints_zeros (lines_of (codes "put 6b 76\ndel 6b")) refl)
+
+pub wrong_word_runs : WrongWordRuns
+wrong_word_runs bytes = (refl, refl, refl, refl, refl, refl, refl, refl)
+
+pub wrong_line_runs : WrongLineRuns
+unfolding decode_pairs
+wrong_line_runs = (refl, refl, refl, refl, refl, refl, refl, refl, refl, refl, refl, refl, refl, refl, refl)
+
+pub key_limit_runs : KeyLimitRuns
+unfolding decode_pairs lines_of
+key_limit_runs = (prints_zeros (lines_of (codes "del " ++ replicate 512 0x30)) refl, refl)

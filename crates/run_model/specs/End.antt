@@ -1,0 +1,39 @@
+-- How a run ends, and how that is told: by a text and by a number.
+use Rattle.std.specs.Prelude.{ℕ, List}
+use Rattle.text_model.specs.Texts.{LimitKind, done_text, word_text, line_text, limit_text, read_text, write_text, no_memory_text}
+
+pub data End : Type 0 where
+  -- the work is finished
+  Done : End
+  -- the word at this place is the first outside the grammar
+  BadWords : ℕ → End
+  -- the line of this number is the first outside the grammar
+  BadLine : ℕ → End
+  -- a count reached its limit
+  Limit : LimitKind → End
+  -- the input could not be read
+  Read : End
+  -- the output could not be written
+  Write : End
+  -- there was no memory
+  NoMemory : End
+
+-- the text that tells of an end
+abbrev pub end_text : End → List ℕ
+end_text Done = done_text
+end_text (BadWords place) = word_text place
+end_text (BadLine number) = line_text number
+end_text (Limit kind) = limit_text kind
+end_text Read = read_text
+end_text Write = write_text
+end_text NoMemory = no_memory_text
+
+-- the number of an end, with which the process ends
+abbrev pub end_number : End → ℕ
+end_number Done = 0
+end_number (BadWords place) = 2
+end_number (BadLine number) = 3
+end_number (Limit kind) = 10
+end_number Read = 20
+end_number Write = 21
+end_number NoMemory = 30

@@ -1,0 +1,26 @@
+-- What a run sees of the things outside at one moment: what they tell, and how often they have failed.
+use Rattle.std.specs.Prelude.{ℕ, List, Option}
+
+-- of the input: the bytes that are left, where it tells them
+pub record InputSeen : Type 0 where
+  pub left : Option (List ℕ)
+  pub faults : ℕ
+
+-- of an output: the bytes that it took, where it tells them
+pub record OutputSeen : Type 0 where
+  pub taken : Option (List ℕ)
+  pub faults : ℕ
+
+-- of all things that a run is handed
+pub record Outside : Type 0 where
+  pub input : InputSeen
+  pub output : OutputSeen
+
+abbrev pub input_seen : Option (List ℕ) → ℕ → InputSeen
+input_seen left faults = record { left = left; faults = faults }
+
+abbrev pub output_seen : Option (List ℕ) → ℕ → OutputSeen
+output_seen taken faults = record { taken = taken; faults = faults }
+
+abbrev pub outside : Option (List ℕ) → ℕ → Option (List ℕ) → ℕ → Outside
+outside left reads taken writes = record { input = input_seen left reads; output = output_seen taken writes }

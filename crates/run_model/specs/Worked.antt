@@ -1,0 +1,95 @@
+-- Worked runs: words and an input, and what they come to, with SHA-256 left as a symbol.
+-- Bytes are in hexadecimal: 0a ends a line, 0d may stand before it, 09 is a tab.
+use Rattle.std.specs.Prelude.{◌≡◌, ℕ, List, [], ◌∷◌, ◌++◌, codes, replicate}
+use Rattle.sha2.specs.Sha256.{sha256}
+use Rattle.hex.specs.Hex.{encode_lower}
+use Rattle.run_model.specs.End.{Done, BadWords, BadLine}
+use Rattle.run_model.specs.Outcome.{Outcome, silent}
+use Rattle.run_model.specs.Runs.{outcome}
+
+-- `mdb - root 16` on an input
+abbrev pub root_16 : List ℕ → Outcome
+root_16 bytes = outcome (codes "-" ∷ codes "root" ∷ codes "16" ∷ []) bytes
+
+-- the work is finished, and this is printed
+abbrev pub prints : List ℕ → Outcome
+prints text = record { end = Done; text = text }
+
+-- the work is finished, and the line of the root of 76 at 6b is printed
+abbrev pub PrintsOnePair : Outcome → Type 0
+PrintsOnePair result = result ≡ prints (codes "root " ++ encode_lower (sha256 (0x00 ∷ 0x01 ∷ 0x01 ∷ 0x76 ∷ 0x08 ∷ 0x6b ∷ [])) ++ 0x0a ∷ [])
+
+-- the work is finished, and the root that is printed is 64 zeros
+abbrev pub PrintsZeros : Outcome → Type 0
+PrintsZeros result = result ≡ prints (codes "root " ++ replicate 64 0x30 ++ 0x0a ∷ [])
+
+-- inputs that make the map of 76 at 6b
+abbrev pub OnePairRuns : Type 0
+OnePairRuns =
+    -- a line; one with 0d 0a for its end; one that lacks its end
+    PrintsOnePair (root_16 (codes "put 6b 76\n"))
+    × PrintsOnePair (root_16 (codes "put 6b 76\r\n"))
+    × PrintsOnePair (root_16 (codes "put 6b 76"))
+    -- blanks everywhere, and digits in upper case
+    × PrintsOnePair (root_16 (codes " \tput\t6B  76 \n"))
+    -- comments and lines without words
+    × PrintsOnePair (root_16 (codes "# put 6b 75\n\n \t\nput 6b 76\n\r\n#"))
+    -- a later line on a key replaces an earlier one
+    × PrintsOnePair (root_16 (codes "put 6b 75\nput 6b 76\n"))
+    × PrintsOnePair (root_16 (codes "put 6b 75\ndel 6b\nput 6b 76\n"))
+    -- deleting a key that isn't there changes nothing
+    × PrintsOnePair (root_16 (codes "put 6b 76\ndel 6c\n"))
+    × PrintsOnePair (root_16 (codes "del 6b\nput 6b 76\ndel -\n"))
+
+-- inputs that make the empty map
+abbrev pub EmptyRuns : Type 0
+EmptyRuns =
+    PrintsZeros (root_16 [])
+    × PrintsZeros (root_16 (codes "\n"))
+    × PrintsZeros (root_16 (codes "put 6b 76\ndel 6b"))
+
+-- words outside the grammar, whatever the input is
+abbrev pub WrongWordRuns : Type 0
+WrongWordRuns =
+    (bytes : List ℕ)
+    -- words that are missing
+    → (outcome [] bytes ≡ silent (BadWords 1))
+    × (outcome (codes "-" ∷ []) bytes ≡ silent (BadWords 2))
+    × (outcome (codes "-" ∷ codes "root" ∷ []) bytes ≡ silent (BadWords 3))
+    -- no command, no factor
+    × (outcome (codes "-" ∷ codes "Root" ∷ codes "16" ∷ []) bytes ≡ silent (BadWords 2))
+    × (outcome (codes "-" ∷ codes "root" ∷ codes "8" ∷ []) bytes ≡ silent (BadWords 3))
+    × (outcome (codes "-" ∷ codes "root" ∷ codes "016" ∷ []) bytes ≡ silent (BadWords 3))
+    -- a word too many, and the same after a wrong one
+    × (outcome (codes "-" ∷ codes "root" ∷ codes "16" ∷ codes "16" ∷ []) bytes ≡ silent (BadWords 4))
+    × (outcome (codes "-" ∷ codes "root" ∷ codes "8" ∷ codes "16" ∷ []) bytes ≡ silent (BadWords 3))
+
+-- inputs with a line outside the grammar
+abbrev pub WrongLineRuns : Type 0
+WrongLineRuns =
+    -- the last line, the first of two, and one after lines that are skipped
+    (root_16 (codes "put 6b 76\nx") ≡ silent (BadLine 2))
+    × (root_16 (codes "x\ny") ≡ silent (BadLine 1))
+    × (root_16 (codes "# x\n\n \nx") ≡ silent (BadLine 4))
+    -- only a first byte # makes a comment
+    × (root_16 (codes " # x") ≡ silent (BadLine 1))
+    -- 0d at the end of the input is part of the last word, and before 0a only one is dropped
+    × (root_16 (codes "del 6b\r") ≡ silent (BadLine 1))
+    × (root_16 (codes "del 6b\r\r\n") ≡ silent (BadLine 1))
+    × (root_16 (codes "\r") ≡ silent (BadLine 1))
+    -- an odd number of digits, what is no digit, a prefix, more than one dash
+    × (root_16 (codes "put 6b 7") ≡ silent (BadLine 1))
+    × (root_16 (codes "put 6g 76") ≡ silent (BadLine 1))
+    × (root_16 (codes "put 0x6b 76") ≡ silent (BadLine 1))
+    × (root_16 (codes "put -- 76") ≡ silent (BadLine 1))
+    -- a word that is missing, a word too many, and other commands
+    × (root_16 (codes "put 6b") ≡ silent (BadLine 1))
+    × (root_16 (codes "put 6b 76 76") ≡ silent (BadLine 1))
+    × (root_16 (codes "del 6b 76") ≡ silent (BadLine 1))
+    × (root_16 (codes "PUT 6b 76") ≡ silent (BadLine 1))
+
+-- a key of 256 bytes, and one of 257
+abbrev pub KeyLimitRuns : Type 0
+KeyLimitRuns =
+    PrintsZeros (root_16 (codes "del " ++ replicate 512 0x30))
+    × (root_16 (codes "del " ++ replicate 514 0x30) ≡ silent (BadLine 1))

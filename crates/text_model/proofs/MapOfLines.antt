@@ -1,0 +1,163 @@
+-- What lines make is a map: each line keeps it one.
+use Rattle.std.proofs.Common.{◌≡◌, ℕ, suc, ◌≤◌, ◌==◌, Bool, true, false, nat_le, cond, List, [], ◌∷◌, length, refl, sym, ◌∙◌, subst, inl, inr, Option, Some, None, Result, Ok, Err, Ordering, Less, Equal, Greater}
+use Rattle.std.specs.Prelude.{codes, IfOk}
+use Rattle.std.specs.List.{AllByRecursion}
+use Rattle.std.specs.Ordering.{eq_by_cmp}
+use Rattle.std.specs.Result.{result_ok}
+use Rattle.std.specs.Str.{bytes_eq}
+use Rattle.std.specs.FinMap.{get, insert, remove, empty, entries, entries-insert, get-remove, get-empty}
+use Rattle.std.specs.FinMap.Entries.{put, by_order}
+use Rattle.std.proofs.lemmas.Cmp.{nat_list_cmp_total}
+use Rattle.std.proofs.lemmas.Bool.{leb-true}
+use Rattle.hex.specs.Hex.{decode_of, IsBytes}
+use Rattle.hex.specs.declared.error.FromHexError.{FromHexError}
+use Rattle.hex.proofs.HexLemmas.{decode_of-ok}
+use Rattle.base_model.specs.Bytes.{AreBytes, bytes_cmp}
+use Rattle.base_model.specs.Member.{Member}
+use Rattle.trie_model.specs.Maps.{Map, IsPair, IsMap, key_limit, value_limit, limits}
+use Rattle.trie_model.proofs.Lists.{All-member}
+use Rattle.trie_model.proofs.Entries.{member_of_get, get_of_member}
+use Rattle.text_model.specs.Lines.{is_overlong}
+use Rattle.text_model.specs.Words.{words_of, hex_word}
+use Rattle.base_model.specs.Fields.{◌>>=◌}
+use Rattle.text_model.specs.LineKind.{LineKind, TooLong, Word, LongKey, LongValue}
+use Rattle.text_model.specs.ReadLine.{InputKind, Batch, Line, Skip, Put, Del, is_comment, at_most, key_word, value_word, put_words, del_words, line_of_words, read_line}
+use Rattle.text_model.specs.MapOfLines.{after_read, after_lines}
+use Rattle.text_model.specs.Laws.{LinesMakeMaps}
+
+-- ---- maps by what they answer
+-- what holds of each member holds of each
+All-of-members : (P : List ℕ × List ℕ → Type 0) (es : List (List ℕ × List ℕ)) → ((e : List ℕ × List ℕ) → Member es e → P e) → AllByRecursion P es
+All-of-members P [] h = tt
+All-of-members P (e ∷ es) h = (h e (inl refl), All-of-members P es (λ f m. h f (inr m)))
+
+-- what a map answers is a pair within the limits
+abbrev Answers : Map → Type 0
+Answers m = (k v : List ℕ) → get m k ≡ Some v → IsPair limits (k, v)
+
+answers : (m : Map) → IsMap limits m → Answers m
+answers m h k v g = All-member (IsPair limits) (entries m) (k, v) h (member_of_get m k v g)
+
+by_answers : (m : Map) → Answers m → IsMap limits m
+by_answers m h = All-of-members (IsPair limits) (entries m) (λ e i. h e.0 e.1 (get_of_member m e.0 e.1 i))
+
+-- ---- maps after a line
+empty_map : IsMap limits empty
+empty_map = by_answers empty (λ k v g. let no : ⊥ = cc (g, get-empty {X = List ℕ} bytes_cmp k) in absurd no)
+
+-- a map with a pair put into it
+put_pair : (es : List (List ℕ × List ℕ)) (k v : List ℕ) → IsPair limits (k, v) → AllByRecursion (IsPair limits) es → AllByRecursion (IsPair limits) (put bytes_cmp k v es)
+put_pair [] k v p h = (p, tt)
+put_pair (e ∷ es) k v p h = go (bytes_cmp k e.0) (put_pair es k v p h.1)
+  where
+    go : (o : Ordering) → AllByRecursion (IsPair limits) (put bytes_cmp k v es) → AllByRecursion (IsPair limits) (by_order o ((k, v) ∷ e ∷ es) ((e.0, v) ∷ es) (e ∷ put bytes_cmp k v es))
+    go Less rest = (p, h)
+    go Equal rest = (record { key_bytes = h.0.key_bytes; value_bytes = p.value_bytes; key_short = h.0.key_short; value_short = p.value_short }, h.1)
+    go Greater rest = (h.0, rest)
+
+inserted_map : (m : Map) (k v : List ℕ) → IsPair limits (k, v) → IsMap limits m → IsMap limits (insert m k v)
+inserted_map m k v p h = subst (AllByRecursion (IsPair limits)) (sym (entries-insert nat_list_cmp_total m k v)) (put_pair (entries m) k v p h)
+
+kept : (b : Bool) (o : Option (List ℕ)) (v : List ℕ) → cond b None o ≡ Some v → o ≡ Some v
+kept true o v g = absurd (cc g)
+kept false o v g = g
+
+removed_map : (m : Map) (k : List ℕ) → IsMap limits m → IsMap limits (remove m k)
+removed_map m k h = by_answers (remove m k) (λ q v g. answers m h q v (kept (eq_by_cmp bytes_cmp q k) (get m q) v (sym (get-remove nat_list_cmp_total m k q) ∙ g)))
+
+-- ---- what words stand for
+each_byte : (bytes : List ℕ) → IsBytes bytes → AreBytes bytes
+each_byte [] h = tt
+each_byte (b ∷ bytes) h = (h 0, each_byte bytes (λ i. h (suc i)))
+
+-- what an option has
+abbrev Has : (List ℕ → Type 0) → Option (List ℕ) → Type 0
+Has P None = Unit {0}
+Has P (Some x) = P x
+
+decoded_bytes : (word : List ℕ) (r : Result (List ℕ) FromHexError) → decode_of word ≡ r → Has AreBytes (result_ok r)
+decoded_bytes word (Ok bytes) h = each_byte bytes (decode_of-ok word bytes h).3
+decoded_bytes word (Err e) h = tt
+
+by_tests : (P : List ℕ → Type 0) (a b : Bool) (o : Option (List ℕ)) → P [] → Has P o → Has P (cond a (Some []) (cond b None o))
+by_tests P true b o none h = none
+by_tests P false true o none h = tt
+by_tests P false false o none h = h
+
+hex_word_bytes : (word : List ℕ) → Has AreBytes (hex_word word)
+hex_word_bytes word = by_tests AreBytes (bytes_eq word (codes "-")) (length word == 0) (result_ok (decode_of word)) tt (decoded_bytes word (decode_of word) refl)
+
+-- bytes, no more than a limit
+abbrev AreBytesWithin : ℕ → List ℕ → Type 0
+AreBytesWithin limit bytes = AreBytes bytes × (length bytes ≤ limit)
+
+within : (limit : ℕ) (long : LineKind) (o : Option (List ℕ)) → Has AreBytes o → IfOk (at_most limit long o) (AreBytesWithin limit)
+within limit long None h = tt
+within limit long (Some bytes) h = go (nat_le (length bytes) limit) refl
+  where
+    go : (b : Bool) → nat_le (length bytes) limit ≡ b → IfOk (cond b (Ok bytes) (Err long)) (AreBytesWithin limit)
+    go true e = (h, leb-true (length bytes) limit e)
+    go false e = tt
+
+key_within : (word : List ℕ) → IfOk (key_word word) (AreBytesWithin key_limit)
+key_within word = within key_limit LongKey (hex_word word) (hex_word_bytes word)
+
+value_within : (word : List ℕ) → IfOk (value_word word) (AreBytesWithin value_limit)
+value_within word = within value_limit LongValue (hex_word word) (hex_word_bytes word)
+
+-- ---- what lines do
+-- what a line puts is a pair within the limits
+abbrev PutsPair : Result Line LineKind → Type 0
+PutsPair (Err kind) = Unit {0}
+PutsPair (Ok Skip) = Unit {0}
+PutsPair (Ok (Put key value)) = IsPair limits (key, value)
+PutsPair (Ok (Del key)) = Unit {0}
+
+put_puts : (key value : Result (List ℕ) LineKind) → IfOk key (AreBytesWithin key_limit) → IfOk value (AreBytesWithin value_limit) → PutsPair (key >>= (λ k. value >>= (λ v. Ok (Put k v))))
+put_puts (Err kind) value k v = tt
+put_puts (Ok key) (Err kind) k v = tt
+put_puts (Ok key) (Ok value) k v = record { key_bytes = k.0; value_bytes = v.0; key_short = k.1; value_short = v.1 }
+
+puts_put : (words : List (List ℕ)) → PutsPair (put_words words)
+puts_put [] = tt
+puts_put (key ∷ []) = tt
+puts_put (key ∷ value ∷ []) = put_puts (key_word key) (value_word value) (key_within key) (value_within value)
+puts_put (key ∷ value ∷ word ∷ words) = tt
+
+del_puts : (key : Result (List ℕ) LineKind) → PutsPair (key >>= (λ k. Ok (Del k)))
+del_puts (Err kind) = tt
+del_puts (Ok key) = tt
+
+dels_put : (words : List (List ℕ)) → PutsPair (del_words words)
+dels_put [] = tt
+dels_put (key ∷ []) = del_puts (key_word key)
+dels_put (key ∷ word ∷ words) = tt
+
+one_of : (b : Bool) (x y : Result Line LineKind) → PutsPair x → PutsPair y → PutsPair (cond b x y)
+one_of true x y p q = p
+one_of false x y p q = q
+
+words_put : (kind : InputKind) (words : List (List ℕ)) → PutsPair (line_of_words kind words)
+words_put kind [] = tt
+words_put Batch (command ∷ words) =
+    one_of (bytes_eq command (codes "put")) (put_words words) (cond (bytes_eq command (codes "del")) (del_words words) (Err Word)) (puts_put words)
+    (one_of (bytes_eq command (codes "del")) (del_words words) (Err Word) (dels_put words) tt)
+
+line_puts : (line : List ℕ) → PutsPair (read_line Batch line)
+line_puts line =
+    one_of (is_overlong line) (Err TooLong) (cond (is_comment line) (Ok Skip) (line_of_words Batch (words_of line))) tt
+    (one_of (is_comment line) (Ok Skip) (line_of_words Batch (words_of line)) tt (words_put Batch (words_of line)))
+
+line_map : (m : Map) (o : Result Line LineKind) → PutsPair o → IsMap limits m → IsMap limits (after_read m o)
+line_map m (Err kind) p h = h
+line_map m (Ok Skip) p h = h
+line_map m (Ok (Put key value)) p h = inserted_map m key value p h
+line_map m (Ok (Del key)) p h = removed_map m key h
+
+lines_map : (m : Map) (lines : List (List ℕ)) → IsMap limits m → IsMap limits (after_lines m lines)
+lines_map m [] h = h
+lines_map m (line ∷ lines) h = lines_map (after_read m (read_line Batch line)) lines (line_map m (read_line Batch line) (line_puts line) h)
+
+-- what lines make is a map within the limits
+pub lines_make_maps : LinesMakeMaps
+lines_make_maps lines = lines_map empty lines empty_map

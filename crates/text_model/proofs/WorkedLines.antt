@@ -1,0 +1,12 @@
+-- The worked lines, by computing.
+use Rattle.std.proofs.Common.{refl}
+use Rattle.hex.specs.Hex.{decode_pairs}
+use Rattle.text_model.specs.WorkedLines.{GoodLines, BadLines}
+
+pub good_lines : GoodLines
+unfolding decode_pairs
+good_lines = (refl, refl, refl, refl, refl, refl, refl, refl)
+
+pub bad_lines : BadLines
+unfolding decode_pairs
+bad_lines = (refl, refl, refl, refl, refl, refl, refl, refl, refl, refl, refl, refl, refl, refl, refl, refl)

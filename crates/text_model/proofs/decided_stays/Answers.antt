@@ -1,5 +1,0 @@
-use Rattle.text_model.proofs.Decided.{decided_stays}
-use Rattle.text_model.proofs.decided_stays.Goals as goal
-
-pub returns : goal.returns
-returns c = decided_stays
