@@ -1,0 +1,9 @@
+pub mod Telling
+pub mod Meanwhile
+pub mod LeftSince
+pub mod Bytes
+pub mod Touched
+pub mod MixedBytes
+pub mod RestImages
+pub mod TornImages
+pub mod HalfCutImages
