@@ -85,9 +85,9 @@ nothing_is_prefix w before after printed = always (λ bytes. AppendsPrefix befor
 
 -- ---- the ends of a run
 -- at the first bad line
-at_line : (w : ℕ) (before after : Outside) (n : ℕ) → FirstBad before.input.left n → PrintsNothing before after → RootPromises w before after (BadLine n)
+at_line : (w : ℕ) (before after : Outside) (n : ℕ) → FirstBad before.input.left n → PrintsNothing before after → after.disk ≡ before.disk → RootPromises w before after (BadLine n)
 unfolding Comes
-at_line w before after n bad printed =
+at_line w before after n bad printed kept =
     let comes : Comes w before (silent (BadLine n)) = where_told (λ bytes. bad_line (lines_within input_limit bytes) ≡ Some n) (λ bytes. root_outcome w bytes ≡ silent (BadLine n)) before.input.left (λ bytes h. bad_outcome w bytes n h) bad in
     record {
       shared = record {
@@ -104,14 +104,15 @@ at_line w before after n bad printed =
         line = λ m is. rw (← is) (ends_as w before (silent (BadLine n)) comes);
         limit = λ kind is. let no : ⊥ = cc is in absurd no;
         write = λ is. let no : ⊥ = cc is in absurd no;
+        disk = kept;
         undecided = λ is. let no : ⊥ = cc is in absurd no;
       };
     }
 
 -- past the limit of an input
-at_limit : (w : ℕ) (before after : Outside) → IsPastLimit before.input.left → PrintsNothing before after → RootPromises w before after (Limit Input)
+at_limit : (w : ℕ) (before after : Outside) → IsPastLimit before.input.left → PrintsNothing before after → after.disk ≡ before.disk → RootPromises w before after (Limit Input)
 unfolding Comes
-at_limit w before after long printed =
+at_limit w before after long printed kept =
     let comes : Comes w before (silent (Limit Input)) = where_told (λ bytes. (input_limit < length bytes) × (bad_line (lines_within input_limit bytes) ≡ None)) (λ bytes. root_outcome w bytes ≡ silent (Limit Input)) before.input.left (λ bytes h. long_outcome w bytes h.0 h.1) long in
     record {
       shared = record {
@@ -128,13 +129,14 @@ at_limit w before after long printed =
         line = λ m is. let no : ⊥ = cc is in absurd no;
         limit = λ kind is. let same : Input ≡ kind = cc is in (rw (← same) (ends_as w before (silent (Limit Input)) comes), sym same);
         write = λ is. let no : ⊥ = cc is in absurd no;
+        disk = kept;
         undecided = λ is. let no : ⊥ = cc is in absurd no;
       };
     }
 
 -- at a read that failed
-at_read : (w : ℕ) (before after : Outside) → Rose before.input.faults after.input.faults → IsUndecided root_decided before after → PrintsNothing before after → RootPromises w before after Read
-at_read w before after rose open_still printed = record {
+at_read : (w : ℕ) (before after : Outside) → Rose before.input.faults after.input.faults → IsUndecided root_decided before after → PrintsNothing before after → after.disk ≡ before.disk → RootPromises w before after Read
+at_read w before after rose open_still printed kept = record {
   shared = record {
     words = λ i is. let no : ⊥ = cc is in no;
     read = λ _. rose;
@@ -149,13 +151,14 @@ at_read w before after rose open_still printed = record {
     line = λ m is. let no : ⊥ = cc is in absurd no;
     limit = λ kind is. let no : ⊥ = cc is in absurd no;
     write = λ is. let no : ⊥ = cc is in absurd no;
+    disk = kept;
     undecided = λ _. open_still;
   };
 }
 
 -- at want of memory
-pub at_memory : (w : ℕ) (before after : Outside) → PrintsNothing before after → RootPromises w before after NoMemory
-at_memory w before after printed = record {
+pub at_memory : (w : ℕ) (before after : Outside) → PrintsNothing before after → after.disk ≡ before.disk → RootPromises w before after NoMemory
+at_memory w before after printed kept = record {
   shared = record {
     words = λ i is. let no : ⊥ = cc is in no;
     read = λ is. let no : ⊥ = cc is in absurd no;
@@ -170,6 +173,7 @@ at_memory w before after printed = record {
     line = λ m is. let no : ⊥ = cc is in absurd no;
     limit = λ kind is. let no : ⊥ = cc is in absurd no;
     write = λ is. let no : ⊥ = cc is in absurd no;
+    disk = kept;
     undecided = λ is. let no : ⊥ = cc is in absurd no;
   };
 }
@@ -184,11 +188,11 @@ still_open before after h = by_told before.input.left after.input.left h
     by_told (Some bytes) (Some rest) g = (g.0, g.1, undecided g.0 g.2 g.3)
 
 -- where its lines made no map
-pub stopped : (w : ℕ) (before after : Outside) (fault : MapFault) → PrintsNothing before after → ((n : ℕ) → fault ≡ AtLine n → FirstBad before.input.left n) → (fault ≡ AtLimit → IsPastLimit before.input.left) → (fault ≡ AtRead → Rose before.input.faults after.input.faults) → (fault ≡ AtRead → GoodSoFar before.input.left after.input.left) → RootPromises w before after (end_of (status_of_fault fault))
-stopped w before after (AtLine n) printed line limit read good = at_line w before after n (line n refl) printed
-stopped w before after AtRead printed line limit read good = at_read w before after (read refl) (still_open before after (good refl)) printed
-stopped w before after AtLimit printed line limit read good = at_limit w before after (limit refl) printed
-stopped w before after AtMemory printed line limit read good = at_memory w before after printed
+pub stopped : (w : ℕ) (before after : Outside) (fault : MapFault) → PrintsNothing before after → after.disk ≡ before.disk → ((n : ℕ) → fault ≡ AtLine n → FirstBad before.input.left n) → (fault ≡ AtLimit → IsPastLimit before.input.left) → (fault ≡ AtRead → Rose before.input.faults after.input.faults) → (fault ≡ AtRead → GoodSoFar before.input.left after.input.left) → RootPromises w before after (end_of (status_of_fault fault))
+stopped w before after (AtLine n) printed kept line limit read good = at_line w before after n (line n refl) printed kept
+stopped w before after AtRead printed kept line limit read good = at_read w before after (read refl) (still_open before after (good refl)) printed kept
+stopped w before after AtLimit printed kept line limit read good = at_limit w before after (limit refl) printed kept
+stopped w before after AtMemory printed kept line limit read good = at_memory w before after printed kept
 
 -- lines that make a map with this root
 pub Found : ℕ → Outside → List ℕ → Type 0
@@ -199,9 +203,9 @@ unfolding Comes Found
 found w before digests id text makes is spelled = where_told (λ bytes. MakesMap bytes digests) (λ bytes. root_outcome w bytes ≡ record { end = Done; text = text }) before.input.left (λ bytes made. made_outcome w bytes digests id made is text spelled) makes
 
 -- its line was written
-pub printed_all : (w : ℕ) (before after : Outside) (text : List ℕ) → Found w before text → AtEnd after.input.left → Appends before.output.taken after.output.taken text → RootPromises w before after Done
+pub printed_all : (w : ℕ) (before after : Outside) (text : List ℕ) → Found w before text → AtEnd after.input.left → Appends before.output.taken after.output.taken text → after.disk ≡ before.disk → RootPromises w before after Done
 unfolding Found
-printed_all w before after text comes end printed =
+printed_all w before after text comes end printed kept =
     let o : Outcome = record { end = Done; text = text } in
     record {
       shared = record {
@@ -218,6 +222,7 @@ printed_all w before after text comes end printed =
         line = λ m is. let no : ⊥ = cc is in absurd no;
         limit = λ kind is. let no : ⊥ = cc is in absurd no;
         write = λ is. let no : ⊥ = cc is in absurd no;
+        disk = kept;
         undecided = λ is. let no : ⊥ = cc is in absurd no;
       };
     }
@@ -226,9 +231,9 @@ printed_all w before after text comes end printed =
     whole taken taken' h = (length text, rw (take_all (length text) text (le_refl (length text))) h)
 
 -- its writing failed
-pub printed_part : (w : ℕ) (before after : Outside) (text : List ℕ) → Found w before text → Rose before.output.faults after.output.faults → AppendsPrefix before.output.taken after.output.taken text → RootPromises w before after Write
+pub printed_part : (w : ℕ) (before after : Outside) (text : List ℕ) → Found w before text → Rose before.output.faults after.output.faults → AppendsPrefix before.output.taken after.output.taken text → after.disk ≡ before.disk → RootPromises w before after Write
 unfolding Found
-printed_part w before after text comes rose printed =
+printed_part w before after text comes rose printed kept =
     let o : Outcome = record { end = Done; text = text } in
     record {
       shared = record {
@@ -245,6 +250,7 @@ printed_part w before after text comes rose printed =
         line = λ m is. let no : ⊥ = cc is in absurd no;
         limit = λ kind is. let no : ⊥ = cc is in absurd no;
         write = λ _. ends_as w before o comes;
+        disk = kept;
         undecided = λ is. let no : ⊥ = cc is in absurd no;
       };
     }

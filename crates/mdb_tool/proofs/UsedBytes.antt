@@ -1,12 +1,12 @@
 -- What the bytes that lines have used of an input settle, from line to line.
-use Rattle.std.proofs.Common.{◌≡◌, ◌⊎◌, ℕ, ◌+◌, ◌≤◌, Bool, true, false, List, [], ◌∷◌, ◌++◌, length, take, Option, Some, None, refl, sym, ap, ◌∙◌, inl, inr, arith, append_assoc, length-append}
+use Rattle.std.proofs.Common.{◌≡◌, ◌⊎◌, ℕ, ◌+◌, ◌≤◌, Bool, true, false, List, [], ◌∷◌, ◌++◌, length, Option, Some, None, refl, sym, ap, ◌∙◌, inl, inr, arith, append_assoc, length-append}
 use Rattle.std.specs.Prelude.{IsTrue}
 use Rattle.std.specs.Str.Lines.{strip_carriage_return}
 use Rattle.std.proofs.lemmas.Bool.Decides.{nat_tests}
-use Rattle.std.proofs.lemmas.List.{append-nil, length-take-le}
+use Rattle.std.proofs.lemmas.List.{append-nil}
 use Rattle.std.proofs.lemmas.List.Splits.{slice_split_none}
 use Rattle.base_model.specs.Faults.{TellsAlike}
-use Rattle.text_model.specs.Lines.{input_limit, line_limit, is_newline, is_overlong, settled_lines, AreWholeLines}
+use Rattle.text_model.specs.Lines.{input_limit, is_newline, is_overlong, settled_lines, AreWholeLines}
 use Rattle.text_model.specs.ReadLine.{Batch, is_line}
 use Rattle.text_model.specs.Laws.{AreGood}
 use Rattle.text_model.proofs.FirstBad.{first_bad_line}

@@ -1,6 +1,6 @@
-pub mod ReadWords
+pub mod ReadJob
 pub mod Ends
 pub mod MapLines
-pub mod Counts
 pub mod Asked
+pub mod Folder
 pub mod Process

@@ -14,6 +14,7 @@ pub record PrintsText (text : List ℕ) (before after : Outside) (end : End) : T
   pub prefix : AppendsPrefix before.output.taken after.output.taken text
   pub write : WriteHasCause before.output.faults after.output.faults end
   pub unread : after.input ≡ before.input
+  pub disk : after.disk ≡ before.disk
 
 -- the words were answered, by the text that they asked for or by a run
 pub record Answers (text : Option (List ℕ)) (given : List (List ℕ)) (before after : Outside) (end : End) : Type 0 where

@@ -1,5 +1,6 @@
 // The words that the system gives.
-ghost use Rattle.std.specs.Prelude.{◌≡◌, IfOk, IfErr, Err, drop};
+ghost use Rattle.std.specs.Prelude.{◌≡◌, ◌⊎◌, Ok, IfOk, IfErr, Err, drop, map, string_bytes};
+ghost use Rattle.mdb_tool.specs.Folder.{folder_of};
 ghost use Rattle.std.specs.IoError.{error_kind};
 ghost use Rattle.std.specs.Vec.Iter.{into_iter_items};
 
@@ -46,6 +47,30 @@ fn words_of(alloc: Global, args: Args) -> Result<Vec<String>, NoMemory>
     ensures { IfOk result (λ words. words.items ≡ drop 1 (into_iter_items args)) }
 {
     Ok(args.skip(1).collect(alloc)?)
+}
+
+/// The folder that the words name, word 1, beside the words. Where there is no word, or the words have a
+/// status in their place, the folder is empty, and no run asks for it.
+pub(crate) fn with_folder(
+    alloc: Global,
+    words: Result<Vec<String>, Status>,
+) -> (String, Result<Vec<String>, Status>)
+    ensures words { IfOk result.1 (λ given. words ≡ Ok given) }
+    ensures folder { IfOk result.1 (λ given. string_bytes result.0 ≡ folder_of (map string_bytes given.items)) }
+    ensures refused { IfErr result.1 (λ status. (words ≡ Err status) ⊎ (status ≡ Status.NoMemory)) }
+{
+    let empty = String::new(alloc);
+    let given = match words {
+        Ok(given) => given,
+        Err(status) => return (empty, Err(status)),
+    };
+    let Some(word) = given.first() else {
+        return (empty, Ok(given));
+    };
+    match String::from_str(alloc, word.as_str()) {
+        Ok(folder) => (folder, Ok(given)),
+        Err(_) => (empty, Err(Status::NoMemory)),
+    }
 }
 
 #[cfg(test)]

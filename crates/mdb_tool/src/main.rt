@@ -9,28 +9,29 @@
 mod command_line;
 mod digests;
 mod help;
+mod job;
 mod map_lines;
 mod process;
 pub mod program;
 mod root_command;
 pub mod status;
-mod streams;
 #[cfg(test)]
 mod tests;
-mod words;
 
-use command_line::read_command_line;
+use command_line::{read_command_line, with_folder};
 use process::carry_out;
+use real_world::{FileDisk, StdSink, StdSource};
 use std::env;
 use std::process::ExitCode;
-use streams::{StdSink, StdSource};
 
 fn main(rt: HostRuntime) -> ExitCode {
+    let (folder, words) = with_folder(rt.alloc(), read_command_line(rt.alloc(), env::args(&rt)));
     carry_out(
         rt.alloc(),
-        read_command_line(rt.alloc(), env::args(&rt)),
+        words,
         &mut StdSource::new(rt.stdin()),
         &mut StdSink::new(rt.stdout()),
+        &mut FileDisk::new(&rt, folder),
         &mut StdSink::new(rt.stderr()),
     )
 }

@@ -1,32 +1,34 @@
 // The top call.
 ghost use Rattle.std.specs.Prelude.{map, string_bytes};
-ghost use Rattle.run_model.specs.Outside.{outside};
+ghost use Rattle.run_model.specs.Outside.{outside, disk_seen};
 ghost use Rattle.run_model.specs.Outcome.{IsComplete};
 ghost use Rattle.run_model.specs.Runs.{outcome, command_outcome, command_runs, TellsWords, WordsTouchNothing, ReadHasCause, WriteHasCause, InputLimitHasCause, SharedRuns, RootPart};
 ghost use Rattle.bit_keys.specs.Branch.{width_of};
 ghost use Rattle.mdb_tool.specs.Ends.{end_of};
-ghost use Rattle.mdb_tool.specs.ReadWords.{seen_command};
+ghost use Rattle.mdb_tool.specs.ReadJob.{seen_command};
 
+use crate::job::{Command, Job, read_words};
 use crate::root_command::run_root;
 use crate::status::Status;
-use crate::words::{Command, Job, read_words};
+use disk_world::Disk;
 use mdb_base::{Sink, Source};
 use std::alloc::Global;
 
 /// Does what the words ask for: word 1 is a folder, or `-` where none is used, word 2 the command.
 ///
-/// Where a clause speaks of what the source has left or of what the sink has taken, it holds of things
-/// that tell it.
-pub fn run<S: Source, K: Sink>(
+/// Where a clause speaks of what the source has left, of what the sink has taken or of what the disk
+/// holds, it holds of things that tell it.
+pub fn run<S: Source, K: Sink, D: Disk>(
     alloc: Global,
     words: &[String],
     input: &mut S,
     out: &mut K,
+    disk: &mut D,
 ) -> Status
     // The first wrong word is told exactly where there is one, and then nothing outside is touched.
     ensures words { TellsWords (map string_bytes words.now) (end_of result) }
-    ensures untouched { let before = outside (S.left input.old) (S.faults input.old) (K.taken out.old) (K.faults out.old) in
-        let after = outside (S.left input.new) (S.faults input.new) (K.taken out.new) (K.faults out.new) in
+    ensures untouched { let before = outside (S.left input.old) (S.faults input.old) (K.taken out.old) (K.faults out.old) (disk_seen D.words disk.old) in
+        let after = outside (S.left input.new) (S.faults input.new) (K.taken out.new) (K.faults out.new) (disk_seen D.words disk.new) in
         WordsTouchNothing before after (end_of result) }
 
     // The cause of each status that is one for all commands.
@@ -35,30 +37,37 @@ pub fn run<S: Source, K: Sink>(
     ensures limit { InputLimitHasCause (S.left input.old) (end_of result) }
 
     // Where nothing outside fails, the run comes to its outcome, or memory ran out.
-    ensures complete { let before = outside (S.left input.old) (S.faults input.old) (K.taken out.old) (K.faults out.old) in
-        let after = outside (S.left input.new) (S.faults input.new) (K.taken out.new) (K.faults out.new) in
+    ensures complete { let before = outside (S.left input.old) (S.faults input.old) (K.taken out.old) (K.faults out.old) (disk_seen D.words disk.old) in
+        let after = outside (S.left input.new) (S.faults input.new) (K.taken out.new) (K.faults out.new) (disk_seen D.words disk.new) in
         IsComplete (outcome (map string_bytes words.now)) before after (end_of result) }
 
     // What the runs of each command promise besides.
-    ensures root { let before = outside (S.left input.old) (S.faults input.old) (K.taken out.old) (K.faults out.old) in
-        let after = outside (S.left input.new) (S.faults input.new) (K.taken out.new) (K.faults out.new) in
+    ensures root { let before = outside (S.left input.old) (S.faults input.old) (K.taken out.old) (K.faults out.old) (disk_seen D.words disk.old) in
+        let after = outside (S.left input.new) (S.faults input.new) (K.taken out.new) (K.faults out.new) (disk_seen D.words disk.new) in
         RootPart (map string_bytes words.now) before after (end_of result) }
 {
     match read_words(words) {
-        Ok(job) => run_job(alloc, job, input, out),
+        Ok(job) => run_job(alloc, job, input, out, disk),
         Err(place) => Status::BadWords(place),
     }
 }
 
 // Does a job, by the function of its command.
-fn run_job<S: Source, K: Sink>(alloc: Global, job: Job, input: &mut S, out: &mut K) -> Status
-    ensures shared { let before = outside (S.left input.old) (S.faults input.old) (K.taken out.old) (K.faults out.old) in
-        let after = outside (S.left input.new) (S.faults input.new) (K.taken out.new) (K.faults out.new) in
+fn run_job<S: Source, K: Sink, D: Disk>(
+    alloc: Global,
+    job: Job,
+    input: &mut S,
+    out: &mut K,
+    disk: &mut D,
+) -> Status
+    ensures shared { let before = outside (S.left input.old) (S.faults input.old) (K.taken out.old) (K.faults out.old) (disk_seen D.words disk.old) in
+        let after = outside (S.left input.new) (S.faults input.new) (K.taken out.new) (K.faults out.new) (disk_seen D.words disk.new) in
         SharedRuns (command_outcome (seen_command job.command) (width_of job.branch)) before after (end_of result) }
-    ensures runs { let before = outside (S.left input.old) (S.faults input.old) (K.taken out.old) (K.faults out.old) in
-        let after = outside (S.left input.new) (S.faults input.new) (K.taken out.new) (K.faults out.new) in
+    ensures runs { let before = outside (S.left input.old) (S.faults input.old) (K.taken out.old) (K.faults out.old) (disk_seen D.words disk.old) in
+        let after = outside (S.left input.new) (S.faults input.new) (K.taken out.new) (K.faults out.new) (disk_seen D.words disk.new) in
         command_runs (seen_command job.command) (width_of job.branch) before after (end_of result) }
 {
+    let _ = disk;
     match job.command {
         Command::Root => run_root(alloc, job.branch, input, out),
     }

@@ -2,7 +2,7 @@
 ghost use Rattle.std.specs.Prelude.{IfOk, string_bytes, ◌≡◌};
 ghost use Rattle.text_model.specs.Texts.{root_text};
 ghost use Rattle.bit_keys.specs.Branch.{width_of};
-ghost use Rattle.run_model.specs.Outside.{outside};
+ghost use Rattle.run_model.specs.Outside.{DiskSeen, outside};
 ghost use Rattle.run_model.specs.Root.{root_outcome, RootRuns};
 ghost use Rattle.run_model.specs.Runs.{SharedRuns};
 ghost use Rattle.mdb_tool.specs.Ends.{end_of};
@@ -21,18 +21,19 @@ fn line_of_root(alloc: Global, id: &Id) -> Result<String, NoMemory>
     Ok(format!(in alloc; "root {digits}\n")?)
 }
 
-/// Reads lines of puts and deletions, and prints the root of the map that they make.
+/// Reads lines of puts and deletions, and prints the root of the map that they make. It is handed no disk:
+/// its clauses hold of each one, which is as it was.
 pub(crate) fn run_root<S: Source, K: Sink>(
     alloc: Global,
     branch: Branch,
     input: &mut S,
     out: &mut K,
 ) -> Status
-    ensures shared { let before = outside (S.left input.old) (S.faults input.old) (K.taken out.old) (K.faults out.old) in
-        let after = outside (S.left input.new) (S.faults input.new) (K.taken out.new) (K.faults out.new) in
+    ensures shared { (disk : DiskSeen) → let before = outside (S.left input.old) (S.faults input.old) (K.taken out.old) (K.faults out.old) disk in
+        let after = outside (S.left input.new) (S.faults input.new) (K.taken out.new) (K.faults out.new) disk in
         SharedRuns (root_outcome (width_of branch)) before after (end_of result) }
-    ensures root { let before = outside (S.left input.old) (S.faults input.old) (K.taken out.old) (K.faults out.old) in
-        let after = outside (S.left input.new) (S.faults input.new) (K.taken out.new) (K.faults out.new) in
+    ensures root { (disk : DiskSeen) → let before = outside (S.left input.old) (S.faults input.old) (K.taken out.old) (K.faults out.old) disk in
+        let after = outside (S.left input.new) (S.faults input.new) (K.taken out.new) (K.faults out.new) disk in
         RootRuns (width_of branch) before after (end_of result) }
 {
     let digests = match read_map(alloc, input) {

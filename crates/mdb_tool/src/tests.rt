@@ -1,6 +1,7 @@
 use crate::program::run;
 use crate::status::{Status, status_line, status_number};
 use mdb_base::{LimitKind, MemSink, MemSource};
+use mem_world::MemDisk;
 use std::alloc::Global;
 use std::process::Abort;
 use std::test::Fail;
@@ -26,6 +27,13 @@ pub(crate) fn source(
     ))
 }
 
+/// A disk of which each call fails.
+pub(crate) fn dead_disk(alloc: Global) -> MemDisk {
+    let mut disk = MemDisk::new(alloc);
+    disk.fuse(0);
+    disk
+}
+
 // That a run on these words and this text, read in pieces of this size, ends so and prints this.
 fn assert_ends(
     rt: &impl Abort,
@@ -37,7 +45,14 @@ fn assert_ends(
 ) -> Result<(), Fail> {
     let mut input = source(alloc, text, piece, &[])?;
     let mut out = MemSink::new(alloc, Vec::new(alloc));
-    let status = run(alloc, &words(alloc, given)?, &mut input, &mut out);
+    let mut disk = dead_disk(alloc);
+    let status = run(
+        alloc,
+        &words(alloc, given)?,
+        &mut input,
+        &mut out,
+        &mut disk,
+    );
     assert_eq!(rt; status, want.0, "of {given:?} on {text:?} by {piece}");
     assert_eq!(rt;
         out.bytes(),
@@ -208,10 +223,11 @@ fn a_key_past_its_limit_is_told_by_its_line(rt: HostRuntime) -> Result<(), Fail>
 fn a_read_or_a_write_that_fails_ends_the_run(rt: HostRuntime) -> Result<(), Fail> {
     let alloc = rt.alloc();
     let given = words(alloc, &["-", "root", "16"])?;
+    let mut disk = dead_disk(alloc);
     for call in 0..8u64 {
         let mut input = source(alloc, b"# put 12 61\nput 6b 76\n", 4, &[call])?;
         let mut out = MemSink::new(alloc, Vec::from_slice(alloc, &[0u64])?);
-        let status = run(alloc, &given, &mut input, &mut out);
+        let status = run(alloc, &given, &mut input, &mut out, &mut disk);
         let want = if call < 7 {
             Status::Read
         } else {
@@ -224,7 +240,7 @@ fn a_read_or_a_write_that_fails_ends_the_run(rt: HostRuntime) -> Result<(), Fail
     let mut input = source(alloc, b"x\nput 6b 76\n", 2, &[1])?;
     let mut out = MemSink::new(alloc, Vec::new(alloc));
     assert_eq!(rt;
-        run(alloc, &given, &mut input, &mut out),
+        run(alloc, &given, &mut input, &mut out, &mut disk),
         Status::BadLine(1)
     );
     Ok(())

@@ -2,13 +2,13 @@
 use Rattle.std.proofs.Common.{◌≡◌, ℕ, Bool, true, false, nat_le, List, ◌++◌, length, take, refl, sym, ap, ◌∙◌, Option, Some, None, arith, length-append}
 use Rattle.std.proofs.lemmas.Bool.{leb-true, leb-false, lt-leb}
 use Rattle.std.proofs.lemmas.List.{take_all}
-use Rattle.text_model.specs.Lines.{input_limit, settled_lines, lines_within, AreWholeLines}
+use Rattle.text_model.specs.Lines.{input_limit, settled_lines, lines_within}
 use Rattle.text_model.specs.ReadLine.{Batch, is_line}
 use Rattle.text_model.specs.MapOfLines.{bad_line}
 use Rattle.text_model.specs.Texts.{Input}
 use Rattle.text_model.proofs.LinesWithin.{overlong_lines_are_bad}
 use Rattle.text_model.proofs.SettledLines.{bad_within, past_limit, whole_lines}
-use Rattle.run_model.specs.End.{Done, BadLine, Limit}
+use Rattle.run_model.specs.End.{BadLine, Limit}
 use Rattle.run_model.specs.Outcome.{Outcome, silent}
 use Rattle.run_model.specs.Root.{root_outcome, decided_of, root_decided}
 use Rattle.run_model.specs.Laws.{UndecidedRootFinishes}

@@ -19,7 +19,6 @@ use Rattle.text_model.specs.LineKind.{LineKind}
 use Rattle.text_model.specs.ReadLine.{Batch, Line, Skip, Put, Del, read_line}
 use Rattle.text_model.specs.MapOfLines.{after_read, after_lines, map_of_lines}
 use Rattle.text_model.specs.Texts.{root_text}
-use Rattle.run_model.specs.Outcome.{Outcome}
 use Rattle.run_model.specs.Worked.{prints, PrintsOnePair, PrintsZeros, OnePairRuns, EmptyRuns, WrongWordRuns, WrongLineRuns, KeyLimitRuns}
 
 -- ---- the pairs that lines make, as a list that computes

@@ -1,5 +1,5 @@
 -- What a run comes to where nothing outside fails and memory lasts: how it ends, and the text that is printed by then.
-use Rattle.std.specs.Prelude.{◌≡◌, ◌⊎◌, ℕ, List, [], ◌++◌, Option, Some, None, IfSome}
+use Rattle.std.specs.Prelude.{◌≡◌, ◌⊎◌, ℕ, List, [], ◌++◌, Option, None, IfSome}
 use Rattle.std.specs.Io.KnownBytes.{Appends}
 use Rattle.base_model.specs.Faults.{Rose}
 use Rattle.base_model.specs.Streams.{AppendsPrefix}

@@ -40,5 +40,7 @@ pub record RootRuns (w : ℕ) (before after : Outside) (end : End) : Type 0 wher
   pub line : (n : ℕ) → end ≡ BadLine n → EndsAs (root_outcome w) before (BadLine n)
   pub limit : (kind : LimitKind) → end ≡ Limit kind → EndsAs (root_outcome w) before (Limit kind) × (kind ≡ Input)
   pub write : end ≡ Write → EndsAs (root_outcome w) before Done
+  -- the disk is as it was
+  pub disk : after.disk ≡ before.disk
   -- a failed read is told only where the bytes that the input gave decide nothing
   pub undecided : end ≡ Read → IsUndecided root_decided before after

@@ -1,5 +1,5 @@
 -- What every run promises, whatever its words are, and which record says the rest for its command.
-use Rattle.std.specs.Prelude.{◌≡◌, ◌≢◌, ◌↔◌, ◌<◌, ℕ, List, length, Option, Some, None, IfSome, Result, Ok, Err}
+use Rattle.std.specs.Prelude.{◌≡◌, ◌≢◌, ◌↔◌, ◌<◌, ℕ, List, length, Option, Some, IfSome, Result, Ok, Err}
 use Rattle.base_model.specs.Faults.{Rose}
 use Rattle.text_model.specs.Lines.{input_limit}
 use Rattle.text_model.specs.Texts.{Input}

@@ -1,5 +1,5 @@
 use super::*;
-use crate::tests::{source, words};
+use crate::tests::{dead_disk, source, words};
 use mdb_base::MemSink;
 use std::test::Fail;
 
@@ -27,7 +27,8 @@ fn carried(
     let mut input = source(alloc, text, 4, failing[0])?;
     let mut out = MemSink::new(alloc, Vec::from_slice(alloc, failing[1])?);
     let mut err = MemSink::new(alloc, Vec::from_slice(alloc, failing[2])?);
-    let code = carry_out(alloc, words, &mut input, &mut out, &mut err);
+    let mut disk = dead_disk(alloc);
+    let code = carry_out(alloc, words, &mut input, &mut out, &mut disk, &mut err);
     Ok(Ended {
         code,
         out: Vec::from_slice(alloc, out.bytes())?,

@@ -2,7 +2,7 @@
 ghost use Rattle.std.specs.Prelude.{◌≡◌, ℕ, List, Result, Some, Err, IfOk, IfErr, map, option_map, string_bytes};
 ghost use Rattle.run_model.specs.Command.{Command as ModelCommand, job_of, job_words, job_with, root_words, factor_word};
 ghost use Rattle.bit_keys.specs.Branch.{width_of};
-ghost use Rattle.mdb_tool.specs.ReadWords.{AreRead, seen_command, seen_job};
+ghost use Rattle.mdb_tool.specs.ReadJob.{AreRead, seen_command, seen_job};
 
 use bit_keys::Branch;
 

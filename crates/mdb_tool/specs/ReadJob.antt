@@ -2,9 +2,9 @@
 use Rattle.std.specs.Prelude.{◌≡◌, ℕ, Result, Ok, Err}
 use Rattle.run_model.specs.Command.{Command, Root, Job}
 use Rattle.bit_keys.specs.Branch.{width_of}
-use Rattle.mdb_tool.specs.declared.words.Command.{Command as ReadCommand}
-use Rattle.mdb_tool.specs.declared.words.Command.TheVariants.{Root as ReadRoot}
-use Rattle.mdb_tool.specs.declared.words.Job.{Job as ReadJob}
+use Rattle.mdb_tool.specs.declared.job.Command.{Command as ReadCommand}
+use Rattle.mdb_tool.specs.declared.job.Command.TheVariants.{Root as ReadRoot}
+use Rattle.mdb_tool.specs.declared.job.Job.{Job as ReadJob}
 
 abbrev pub seen_command : ReadCommand → Command
 seen_command ReadRoot = Root
