@@ -1,9 +1,7 @@
 -- What the disks in memory tell, and what their calls do besides.
-use Rattle.std.specs.Prelude.{◌≡◌, ◌⊎◌, ℕ, List, [], ◌∷◌, map, Result, OnErr, IsErr}
+use Rattle.std.specs.Prelude.{◌≡◌, ◌⊎◌, ℕ, List, ◌∷◌, map, Result, OnErr, IsErr}
 use Rattle.base_model.specs.Faults.{CountsFaults}
-use Rattle.disk_model.specs.Crash.{at_rest}
-use Rattle.disk_model.specs.Moments.{Moments}
-use Rattle.disk_model.specs.Words.{DiskWords, Contents, Images}
+use Rattle.disk_model.specs.Words.{DiskWords, Contents, Images, no_moments}
 use Rattle.mem_world.specs.declared.stops.Stops.{Stops}
 use Rattle.mem_world.specs.declared.changes.Call.{Call}
 use Rattle.mem_world.specs.declared.mem_disk.MemDisk.{MemDisk}
@@ -45,10 +43,6 @@ abbrev pub Begun : Call → MemDisk → MemDisk → Type 0
 Begun call old new =
     ((disk_files new ≡ disk_files old) × (disk_past new ≡ disk_past old))
     ⊎ ((disk_files new ≡ step call (disk_files old)) × (disk_past new ≡ disk_files old ∷ disk_past old))
-
--- the moments of a disk that tells none
-abbrev pub no_moments : Moments
-no_moments = record { now = λ _. at_rest []; past = [] }
 
 -- how often a plain disk has failed
 abbrev pub flat_faults : FlatDisk → ℕ

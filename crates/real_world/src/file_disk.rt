@@ -162,8 +162,7 @@ impl<'a, R: Files<File = File> + AllocGlobal> FileDisk<'a, R> {
 }
 
 impl<'a, R: Files<File = File> + AllocGlobal> Disk for FileDisk<'a, R> {
-    ghost use Rattle.disk_model.specs.Words.{Nothing};
-    ghost use Rattle.real_world.specs.Untold.{no_files, no_moments};
+    ghost use Rattle.disk_model.specs.Words.{Nothing, no_files, no_moments};
 
     ghost words = { record { tells = Nothing; seen = λ _. no_files; moments = λ _. no_moments; faults = λ d. d.faults } };
 
