@@ -42,18 +42,6 @@ pub AreBytes-append : (xs ys : List ℕ) → AreBytes xs → AreBytes ys → Are
 AreBytes-append [] ys a b = b
 AreBytes-append (x ∷ xs) ys a b = (a.0, AreBytes-append xs ys a.1 b)
 
-pub AreBytes-take : (n : ℕ) (xs : List ℕ) → AreBytes xs → AreBytes (take n xs)
-AreBytes-take zero [] are = tt
-AreBytes-take zero (x ∷ xs) are = tt
-AreBytes-take (suc n) [] are = tt
-AreBytes-take (suc n) (x ∷ xs) are = (are.0, AreBytes-take n xs are.1)
-
-pub AreBytes-drop : (n : ℕ) (xs : List ℕ) → AreBytes xs → AreBytes (drop n xs)
-AreBytes-drop zero [] are = tt
-AreBytes-drop zero (x ∷ xs) are = are
-AreBytes-drop (suc n) [] are = tt
-AreBytes-drop (suc n) (x ∷ xs) are = AreBytes-drop n xs are.1
-
 pub AreBytes-zeros : (n : ℕ) → AreBytes (replicate n 0)
 AreBytes-zeros zero = tt
 AreBytes-zeros (suc n) = (omega arith, AreBytes-zeros n)

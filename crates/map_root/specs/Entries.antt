@@ -3,6 +3,7 @@ use Rattle.std.specs.Prelude.{◌≡◌, ℕ, Bool, List, length, map, ◌*◌, 
 use Rattle.std.specs.List.{AllByRecursion}
 use Rattle.base_model.specs.Bytes.{AreBytes}
 use Rattle.trie_model.specs.Bits.{bits_of_bytes, packed}
+use Rattle.trie_model.specs.Hashing.{hash_length}
 use Rattle.trie_model.specs.Items.{Item, Val}
 use Rattle.map_root.specs.declared.entry.Entry.{Entry}
 
@@ -29,9 +30,9 @@ pairs_of = map pair_of
 abbrev pub AreOfBytes : List Entry → Type 0
 AreOfBytes es = AllByRecursion (λ (e : Entry). (bs : List ℕ) × AreBytes bs × (e.key ≡ bits_of_bytes bs)) es
 
--- digests of at most 32 bytes
+-- digests that are no longer than a hash
 abbrev pub AreShortDigests : List Entry → Type 0
-AreShortDigests es = AllByRecursion (λ (e : Entry). length e.digest ≤ 32) es
+AreShortDigests es = AllByRecursion (λ (e : Entry). length e.digest ≤ hash_length) es
 
 -- keys of whole tokens
 abbrev pub AreWhole : ℕ → List Entry → Type 0

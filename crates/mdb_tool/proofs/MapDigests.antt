@@ -1,10 +1,9 @@
 -- What a line makes of a map is what it makes of the digests of the map.
-use Rattle.std.proofs.Common.{◌≡◌, ℕ, Bool, true, false, not, cond, List, [], ◌∷◌, map, refl, sym, ap, ◌∙◌, subst, Option, None, Ordering, Less, Equal, Greater}
-use Rattle.std.specs.Ordering.{eq_by_cmp, is_eq}
+use Rattle.std.proofs.Common.{◌≡◌, ℕ, Bool, true, false, not, cond, List, [], ◌∷◌, map, refl, sym, ap, ◌∙◌, subst, Ordering, Less, Equal, Greater}
+use Rattle.std.specs.Ordering.{is_eq}
 use Rattle.std.specs.List.{AllByRecursion}
-use Rattle.std.specs.FinMap.{get, insert, remove, entries, entries_sorted, entries-insert, get-remove, get-entries}
-use Rattle.std.specs.Cmp.{eq_by_cmp_equiv}
-use Rattle.std.specs.FinMap.Entries.{put, by_order, where_key, is_sorted-where_key, find-where_key, same_entries}
+use Rattle.std.specs.FinMap.{insert, remove, entries, entries-insert}
+use Rattle.std.specs.FinMap.Entries.{put, by_order, where_key}
 use Rattle.std.specs.Map.{remove_entry}
 use Rattle.std.specs.BTreeMap.{is_at}
 use Rattle.std.proofs.lemmas.Cmp.{nat_list_cmp_total}
@@ -12,6 +11,7 @@ use Rattle.smallvec.specs.SmallVec.{SmallVec}
 use Rattle.base_model.specs.Bytes.{bytes_cmp}
 use Rattle.trie_model.proofs.Lists.{filter-all}
 use Rattle.trie_model.proofs.Entries.{tied_equal, IsAscending, entries-IsAscending}
+use Rattle.trie_model.proofs.EntriesRemoved.{other_key, entries-remove}
 use Rattle.trie_model.specs.Hashing.{value_digest}
 use Rattle.trie_model.specs.Maps.{Map, digest_entry, map_digests}
 
@@ -42,39 +42,21 @@ digests-remove_entry (e ∷ es) k = go (is_at (bytes_cmp k) e.0) (digests-remove
     go true ih = refl
     go false ih = ap (λ r. digest_entry e ∷ r) ih
 
--- a key is another one than k
-abbrev other : List ℕ → List ℕ → Bool
-other k x = not (eq_by_cmp bytes_cmp k x)
-
-turned : (b : Bool) (o : Option (List ℕ)) → cond b None o ≡ cond (not b) o None
-turned true o = refl
-turned false o = refl
-
--- the entries of a map without a key are those with other keys
-entries-remove : (m : Map) (k : List ℕ) → entries (remove m k) ≡ where_key bytes_cmp (other k) (entries m)
-entries-remove m k = same_entries bytes_cmp nat_list_cmp_total tied_equal (entries (remove m k)) (where_key bytes_cmp (other k) (entries m)) (entries_sorted (remove m k)) (is_sorted-where_key bytes_cmp (other k) (entries m) (entries_sorted m)) (λ q.
-    sym (get-entries (remove m k) q)
-    ∙ get-remove nat_list_cmp_total m k q
-    ∙ ap (λ b. cond b None (get m q)) ((eq_by_cmp_equiv nat_list_cmp_total).symm q k)
-    ∙ turned (eq_by_cmp bytes_cmp k q) (get m q)
-    ∙ ap (λ o. cond (other k q) o None) (get-entries m q)
-    ∙ sym (find-where_key bytes_cmp (other k) q (λ x t. ap (other k) (sym (tied_equal q x t))) (entries m)))
-
 -- the keys after k are others
-others : (k : List ℕ) (es : List (List ℕ × List ℕ)) → AllByRecursion (λ (f : List ℕ × List ℕ). bytes_cmp k f.0 ≡ Less) es → AllByRecursion (λ (f : List ℕ × List ℕ). other k f.0 ≡ true) es
+others : (k : List ℕ) (es : List (List ℕ × List ℕ)) → AllByRecursion (λ (f : List ℕ × List ℕ). bytes_cmp k f.0 ≡ Less) es → AllByRecursion (λ (f : List ℕ × List ℕ). other_key k f.0 ≡ true) es
 others k [] h = tt
 others k (e ∷ es) h = (ap (λ o. not (is_eq o)) h.0, others k es h.1)
 
 -- in ascending order one entry at most has the key
-where_other : (k : List ℕ) (es : List (List ℕ × List ℕ)) → IsAscending es → where_key bytes_cmp (other k) es ≡ remove_entry (is_at (bytes_cmp k)) es
+where_other : (k : List ℕ) (es : List (List ℕ × List ℕ)) → IsAscending es → where_key bytes_cmp (other_key k) es ≡ remove_entry (is_at (bytes_cmp k)) es
 where_other k [] h = refl
 where_other k (e ∷ es) h = go (bytes_cmp k e.0) refl (where_other k es h.1)
   where
-    go : (o : Ordering) → bytes_cmp k e.0 ≡ o → where_key bytes_cmp (other k) es ≡ remove_entry (is_at (bytes_cmp k)) es
-        → cond (not (is_eq o)) (e ∷ where_key bytes_cmp (other k) es) (where_key bytes_cmp (other k) es) ≡ cond (is_eq o) es (e ∷ remove_entry (is_at (bytes_cmp k)) es)
+    go : (o : Ordering) → bytes_cmp k e.0 ≡ o → where_key bytes_cmp (other_key k) es ≡ remove_entry (is_at (bytes_cmp k)) es
+        → cond (not (is_eq o)) (e ∷ where_key bytes_cmp (other_key k) es) (where_key bytes_cmp (other_key k) es) ≡ cond (is_eq o) es (e ∷ remove_entry (is_at (bytes_cmp k)) es)
     go Less p ih = ap (λ r. e ∷ r) ih
     go Greater p ih = ap (λ r. e ∷ r) ih
-    go Equal p ih = filter-all (λ (f : List ℕ × List ℕ). other k f.0) es (others k es (subst (λ x. AllByRecursion (λ (f : List ℕ × List ℕ). bytes_cmp x f.0 ≡ Less) es) (sym (tied_equal k e.0 p)) h.0))
+    go Equal p ih = filter-all (λ (f : List ℕ × List ℕ). other_key k f.0) es (others k es (subst (λ x. AllByRecursion (λ (f : List ℕ × List ℕ). bytes_cmp x f.0 ≡ Less) es) (sym (tied_equal k e.0 p)) h.0))
 
 -- the digests of a map from which a key was deleted
 pub map_digests-remove : (m : Map) (k : List ℕ) → map_digests (remove m k) ≡ remove_entry (is_at (bytes_cmp k)) (map_digests m)

@@ -4,7 +4,8 @@ use Rattle.std.proofs.Math.Seq.{take-append-add}
 use Rattle.std.proofs.lemmas.List.{length-take, length-replicate, take-append-le, take-replicate, drop_all, append-nil, take_all, get_or-take, get_or-drop, get_or_append_left, get_or-append_right}
 use Rattle.std.proofs.lemmas.Bool.{cases_lt}
 use Rattle.disk_model.specs.Files.{IsFile, Torn, written, file_limit, first_touched}
-use Rattle.disk_model.proofs.Bytes.{bytes_below, same_front, same_back, AreBytes-append, AreBytes-take, AreBytes-drop, AreBytes-zeros}
+use Rattle.base_model.proofs.Fields.{AreBytes-take, AreBytes-drop}
+use Rattle.disk_model.proofs.Bytes.{bytes_below, same_front, same_back, AreBytes-append, AreBytes-zeros}
 
 pub length-written : (file : List ℕ) (at : ℕ) (bytes : List ℕ) → length (written file at bytes) ≡ max (length file) (at + length bytes)
 length-written file at bytes =

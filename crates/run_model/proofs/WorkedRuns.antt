@@ -1,10 +1,8 @@
 -- The worked runs, by computing.
-use Rattle.std.proofs.Common.{◌≡◌, ℕ, Bool, true, false, not, cond, List, [], ◌∷◌, ◌++◌, length, map, replicate, refl, sym, ap, ◌∙◌, Option, None, Result, Ok, Err, arith}
+use Rattle.std.proofs.Common.{◌≡◌, ℕ, List, [], ◌∷◌, ◌++◌, length, map, replicate, refl, sym, ap, ◌∙◌, Result, Ok, Err, arith}
 use Rattle.std.specs.Prelude.{codes}
-use Rattle.std.specs.Ordering.{eq_by_cmp}
-use Rattle.std.specs.FinMap.{get, remove, empty, entries, entries_sorted, entries-insert, get-remove, get-entries, len-entries, len-empty}
-use Rattle.std.specs.Cmp.{eq_by_cmp_equiv}
-use Rattle.std.specs.FinMap.Entries.{put, where_key, is_sorted-where_key, find-where_key, same_entries}
+use Rattle.std.specs.FinMap.{empty, entries, entries-insert, len-entries, len-empty}
+use Rattle.std.specs.FinMap.Entries.{put, where_key}
 use Rattle.std.proofs.lemmas.Cmp.{nat_list_cmp_total}
 use Rattle.sha2.specs.Sha256.{sha256}
 use Rattle.hex.specs.Hex.{encode_with, decode_pairs}
@@ -13,7 +11,7 @@ use Rattle.base_model.specs.Uvarint.{uvarint}
 use Rattle.trie_model.specs.Hashing.{zero_id, hashed_string, value_digest}
 use Rattle.trie_model.specs.Ids.{id, id_within, children}
 use Rattle.trie_model.specs.Maps.{Map, entry_item, root}
-use Rattle.trie_model.proofs.Entries.{tied_equal}
+use Rattle.trie_model.proofs.EntriesRemoved.{other_key, entries-remove}
 use Rattle.text_model.specs.Lines.{input_limit, lines_within}
 use Rattle.text_model.specs.LineKind.{LineKind}
 use Rattle.text_model.specs.ReadLine.{Batch, Line, Skip, Put, Del, read_line}
@@ -22,33 +20,15 @@ use Rattle.text_model.specs.Texts.{root_text}
 use Rattle.run_model.specs.Worked.{prints, PrintsOnePair, PrintsZeros, OnePairRuns, EmptyRuns, WrongWordRuns, WrongLineRuns, KeyLimitRuns}
 
 -- ---- the pairs that lines make, as a list that computes
--- a key is another one than k
-abbrev other : List ℕ → List ℕ → Bool
-other k x = not (eq_by_cmp bytes_cmp k x)
-
 abbrev pairs_after : List (List ℕ × List ℕ) → Result Line LineKind → List (List ℕ × List ℕ)
 pairs_after es (Err kind) = es
 pairs_after es (Ok Skip) = es
 pairs_after es (Ok (Put key value)) = put bytes_cmp key value es
-pairs_after es (Ok (Del key)) = where_key bytes_cmp (other key) es
+pairs_after es (Ok (Del key)) = where_key bytes_cmp (other_key key) es
 
 abbrev pairs_of : List (List ℕ × List ℕ) → List (List ℕ) → List (List ℕ × List ℕ)
 pairs_of es [] = es
 pairs_of es (line ∷ lines) = pairs_of (pairs_after es (read_line Batch line)) lines
-
-turned : (b : Bool) (o : Option (List ℕ)) → cond b None o ≡ cond (not b) o None
-turned true o = refl
-turned false o = refl
-
--- the entries of a map without a key are those with other keys
-entries-remove : (m : Map) (k : List ℕ) → entries (remove m k) ≡ where_key bytes_cmp (other k) (entries m)
-entries-remove m k = same_entries bytes_cmp nat_list_cmp_total tied_equal (entries (remove m k)) (where_key bytes_cmp (other k) (entries m)) (entries_sorted (remove m k)) (is_sorted-where_key bytes_cmp (other k) (entries m) (entries_sorted m)) (λ q.
-    sym (get-entries (remove m k) q)
-    ∙ get-remove nat_list_cmp_total m k q
-    ∙ ap (λ b. cond b None (get m q)) ((eq_by_cmp_equiv nat_list_cmp_total).symm q k)
-    ∙ turned (eq_by_cmp bytes_cmp k q) (get m q)
-    ∙ ap (λ o. cond (other k q) o None) (get-entries m q)
-    ∙ sym (find-where_key bytes_cmp (other k) q (λ x t. ap (other k) (sym (tied_equal q x t))) (entries m)))
 
 entries-after : (m : Map) (r : Result Line LineKind) → entries (after_read m r) ≡ pairs_after (entries m) r
 entries-after m (Err kind) = refl
