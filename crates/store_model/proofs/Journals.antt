@@ -1,0 +1,87 @@
+-- What files hold and stand for: at most one list of records, and at most one map.
+use Rattle.std.proofs.Common.{◌≡◌, ℕ, Bool, true, false, cond, List, [], ◌∷◌, ◌++◌, drop, Option, Some, None, Result, Ok, Err, refl, sym, ap, ◌∙◌, arith, subst, ltb}
+use Rattle.std.specs.FinMap as map_of
+use Rattle.base_model.specs.Fields.{◌>>=◌}
+use Rattle.base_model.proofs.Results.{ok_is, bind_ok}
+use Rattle.store_model.specs.Header.{Header, StoreFault, header_form, header_of, first_gate}
+use Rattle.store_model.specs.Record.{Record, Begins, record_form, records_form}
+use Rattle.store_model.specs.Journal.{IsJournal, Hold, RecordsOf, active, later, after_records}
+use Rattle.store_model.specs.Laws.{FilesHoldOneList, FilesStandForOneMap, ActiveFileCounts}
+use Rattle.store_model.proofs.Headers.{spelled_headers_are_read}
+use Rattle.store_model.proofs.Records.{begins_once}
+
+-- one file is the journal of one list
+pub journal_once : (h : Header) (rs qs : List Record) (bytes : List ℕ) → IsJournal h rs bytes → IsJournal h qs bytes → rs ≡ qs
+journal_once h rs qs bytes a b =
+    let same : b.behind ≡ a.behind = sym (start b.behind) ∙ ap (drop first_gate) (sym b.is ∙ a.is) ∙ start a.behind in
+    begins_once rs qs a.behind a.begins (subst (λ x. Begins qs x) same b.begins)
+  where
+    start : (x : List ℕ) → drop 0 x ≡ x
+    start [] = refl
+    start (c ∷ x) = refl
+
+-- the header of a journal file
+pub journal_header : (file : ℕ) (h : Header) (rs : List Record) (bytes : List ℕ) → IsJournal h rs bytes → header_of file bytes ≡ Ok (Some h)
+journal_header file h [] bytes j =
+    ap (header_of file) (j.is ∙ ap (λ x. header_form h ++ x) j.begins.is) ∙ spelled_headers_are_read file h j.begins.gate j.begins.junk j.header
+journal_header file h (r ∷ rs) bytes j =
+    ap (header_of file) (j.is ∙ ap (λ x. header_form h ++ x) j.begins.is) ∙ spelled_headers_are_read file h 1 ((record_form r ++ records_form rs) ++ j.begins.gate ∷ j.begins.junk) j.header
+
+pub files_hold_one_list : FilesHoldOneList
+files_hold_one_list files rs qs a b = which (active files) a b
+  where
+    which : (x : Result (Option (ℕ × Header)) StoreFault) → RecordsOf files rs x → RecordsOf files qs x → rs ≡ qs
+    which (Ok None) a b = a ∙ sym b
+    which (Ok (Some x)) a b = journal_once x.1 rs qs (files x.0) a b
+    which (Err fault) a b = absurd a
+
+pub files_stand_for_one_map : FilesStandForOneMap
+files_stand_for_one_map l files m n a b =
+    let same = files_hold_one_list files b.records a.records b.hold a.hold in
+    ok_is m n (sym a.is ∙ sym (ap (after_records l map_of.empty) same) ∙ b.is)
+
+-- the active file is that of one of the two headers
+data Chosen (a b : Option Header) (file : ℕ) (h : Header) : Type 0 where
+  First : file ≡ 0 → a ≡ Some h → Chosen a b file h
+  Second : file ≡ 1 → b ≡ Some h → Chosen a b file h
+
+pair_is : (x y : ℕ × Header) → Some x ≡ Some y → x ≡ y
+pair_is x y e = cc
+
+first : (a : Header) (b : Option Header) (file : ℕ) (h : Header) → ◌≡◌ {A = Option (ℕ × Header)} (Some (0, a)) (Some (file, h)) → Chosen (Some a) b file h
+first a b file h e = let p = pair_is (0, a) (file, h) e in First (sym (ap (λ (p : ℕ × Header). p.0) p)) (ap (λ (p : ℕ × Header). Some p.1) p)
+
+second : (a : Option Header) (b : Header) (file : ℕ) (h : Header) → ◌≡◌ {A = Option (ℕ × Header)} (Some (1, b)) (Some (file, h)) → Chosen a (Some b) file h
+second a b file h e = let p = pair_is (1, b) (file, h) e in Second (sym (ap (λ (p : ℕ × Header). p.0) p)) (ap (λ (p : ℕ × Header). Some p.1) p)
+
+chosen : (a b : Option Header) (file : ℕ) (h : Header) → later a b ≡ Some (file, h) → Chosen a b file h
+chosen None None file h e = absurd cc
+chosen (Some a) None file h e = first a None file h e
+chosen None (Some b) file h e = second None b file h e
+chosen (Some a) (Some b) file h e = test (ltb a.generation b.generation) e
+  where
+    test : (t : Bool) → ◌≡◌ {A = Option (ℕ × Header)} (cond t (Some (1, b)) (Some (0, a))) (Some (file, h)) → Chosen (Some a) (Some b) file h
+    test true e = second (Some a) b file h e
+    test false e = first a (Some b) file h e
+
+pub active_file_counts : ActiveFileCounts
+active_file_counts files image file h rs is journal stays =
+    let a = bind_ok (header_of 0 (files 0)) (λ first. header_of 1 (files 1) >>= λ second. Ok (later first second)) (Some (file, h)) is in
+    let b = bind_ok (header_of 1 (files 1)) (λ second. Ok (later a.0 second)) (Some (file, h)) a.2 in
+    let picked = ok_is (later a.0 b.0) (Some (file, h)) b.2 in
+    by_file a.0 b.0 a.1 b.1 picked (chosen a.0 b.0 file h picked)
+  where
+    both : (a b : Option Header) → header_of 0 (image 0) ≡ Ok a → header_of 1 (image 1) ≡ Ok b → later a b ≡ Some (file, h) → Hold image rs
+    both a b first second picked =
+        let whole : active image ≡ Ok (Some (file, h)) = rw (first, second) (ap (λ x. Ok x) picked) in
+        subst (RecordsOf image rs) (sym whole) journal
+
+    by_file : (a b : Option Header) → header_of 0 (files 0) ≡ Ok a → header_of 1 (files 1) ≡ Ok b → later a b ≡ Some (file, h) → Chosen a b file h → Hold image rs
+    by_file a b first second picked (First zero same) =
+        let here : header_of 0 (image 0) ≡ Ok a = journal_header 0 h rs (image 0) (subst (λ f. IsJournal h rs (image f)) zero journal) ∙ ap (λ x. Ok x) (sym same) in
+        let other : image 1 ≡ files 1 = stays 1 (λ e. absurd (omega (arith, e, zero))) in
+        both a b here (ap (header_of 1) other ∙ second) picked
+    by_file a b first second picked (Second one same) =
+        let here : header_of 1 (image 1) ≡ Ok b = journal_header 1 h rs (image 1) (subst (λ f. IsJournal h rs (image f)) one journal) ∙ ap (λ x. Ok x) (sym same) in
+        let other : image 0 ≡ files 0 = stays 0 (λ e. absurd (omega (arith, e, one))) in
+        both a b (ap (header_of 0) other ∙ first) here picked
