@@ -1,11 +1,11 @@
 -- Headers: what is spelled is read, and what is read is spelled so.
-use Rattle.std.proofs.Common.{◌≡◌, ℕ, suc, ◌^◌, ◌<◌, Bool, true, false, cond, ◌&&◌, List, [], ◌∷◌, ◌++◌, length, get_or, drop, Option, Some, None, Result, Ok, Err, refl, sym, ap, ◌∙◌, arith, subst, ltb, eqb}
+use Rattle.std.proofs.Common.{◌≡◌, ℕ, suc, ◌^◌, ◌<◌, Bool, true, false, cond, ◌&&◌, List, [], ◌∷◌, ◌++◌, length, get_or, take, drop, Option, Some, None, Result, Ok, Err, refl, sym, ap, ◌∙◌, arith, subst, ltb, eqb, length-take, take-append-drop}
 use Rattle.std.specs.Int.{w64, to_be_bytes}
 use Rattle.std.proofs.lemmas.Bool.Decides.{nat_tests}
-use Rattle.std.proofs.lemmas.List.{drop_at}
+use Rattle.std.proofs.lemmas.List.{drop_at, drop_all, append-nil}
 use Rattle.base_model.specs.Bytes.{AreBytes}
 use Rattle.base_model.specs.Fields.{◌>>=◌}
-use Rattle.base_model.proofs.Fields.{got, IsRead, Stands, Stands-then}
+use Rattle.base_model.proofs.Fields.{got, IsRead, Stands, Stands-then, AreBytes-take}
 use Rattle.base_model.proofs.Results.{ok_is, bind_ok, passed, met}
 use Rattle.store_model.specs.Fields.{byte_at, these_at, big_endian_at}
 use Rattle.store_model.specs.Header.{Header, IsHeader, NotAStore, Damaged, header_form, header_of, header_behind_gate, width_at, generation_at, has_open_header, first_gate, open_gate, name_and_version, header_zeros, is_width}
@@ -51,7 +51,7 @@ unfolding header_of
 spelled_headers_are_read file h gate rest fits =
     let bytes = header_form h ++ gate ∷ rest in
     let test : has_open_header bytes ≡ true = open_test bytes (omega arith) refl in
-    let read : header_behind_gate file bytes ≡ Ok h = behind_gate file h bytes (gate ∷ rest) fits (omega arith) refl in
+    let read : header_behind_gate file (header_form h) ≡ Ok h = behind_gate file h (header_form h) [] fits (omega arith) refl in
     rw (test, read) refl
 
 -- ---- what is read is spelled so
@@ -82,9 +82,10 @@ some_if false x y e = absurd cc
 some_is : {A : Type 0} (x y : A) → Some x ≡ Some y → x ≡ y
 some_is x y e = cc
 
-opened : (bytes : List ℕ) → has_open_header bytes ≡ true → Stands bytes 0 (1 ∷ []) 1
+-- the front of a file with an open header begins with its gate
+opened : (bytes : List ℕ) → has_open_header bytes ≡ true → Stands (take first_gate bytes) 0 (1 ∷ []) 1
 opened [] e = absurd cc
-opened (b ∷ bytes) e = ap (λ x. x ∷ bytes) (same_number b 1 (second (ltb first_gate (length (b ∷ bytes))) (eqb b 1) e)) ∙ ap (λ l. 1 ∷ l) (sym (start bytes))
+opened (b ∷ bytes) e = ap (λ x. x ∷ take 23 bytes) (same_number b 1 (second (ltb first_gate (length (b ∷ bytes))) (eqb b 1) e)) ∙ ap (λ l. 1 ∷ l) (sym (start (take 23 bytes)))
   where
     second : (a b : Bool) → (a && b) ≡ true → b ≡ true
     second true b e = e
@@ -94,27 +95,44 @@ opened (b ∷ bytes) e = ap (λ x. x ∷ bytes) (same_number b 1 (second (ltb fi
     start [] = refl
     start (c ∷ x) = refl
 
-pub read_headers_are_spelled : ReadHeadersAreSpelled
-unfolding header_of header_behind_gate
-read_headers_are_spelled file bytes h fits e =
-    let o = some_if (has_open_header bytes) (header_behind_gate file bytes >>= λ h. Ok (Some h)) h e in
-    let a = bind_ok (header_behind_gate file bytes) (λ h. Ok (Some h)) (Some h) o.1 in
-    let n = bind_ok (these_at (λ _. NotAStore file) name_and_version bytes 1) (λ name_end. width_at file bytes name_end >>= λ width. these_at (Damaged file) header_zeros bytes width.1 >>= λ zeros_end. generation_at file bytes zeros_end >>= λ generation. Ok (record { width = width.0; generation = generation.0 })) a.0 a.1 in
-    let w = bind_ok (width_at file bytes n.0) (λ width. these_at (Damaged file) header_zeros bytes width.1 >>= λ zeros_end. generation_at file bytes zeros_end >>= λ generation. Ok (record { width = width.0; generation = generation.0 })) a.0 n.2 in
-    let z = bind_ok (these_at (Damaged file) header_zeros bytes w.0.1) (λ zeros_end. generation_at file bytes zeros_end >>= λ generation. Ok (record { width = w.0.0; generation = generation.0 })) a.0 w.2 in
-    let g = bind_ok (generation_at file bytes z.0) (λ generation. Ok (record { width = w.0.0; generation = generation.0 })) a.0 z.2 in
+long_enough : (bytes : List ℕ) → has_open_header bytes ≡ true → first_gate < length bytes
+long_enough bytes e = first (ltb first_gate (length bytes)) (eqb (get_or bytes 0 0) 1) e (λ t. grind (arith, nat_tests))
+  where
+    first : (a b : Bool) → (a && b) ≡ true → (a ≡ true → first_gate < length bytes) → first_gate < length bytes
+    first true b e f = f refl
+    first false b e f = absurd cc
+
+-- a header that was read behind a gate stands there
+behind_gate-Stands : (file : ℕ) (bytes : List ℕ) (h : Header) → AreBytes bytes → Stands bytes 0 (1 ∷ []) 1 → header_behind_gate file bytes ≡ Ok h → IsHeader h × (bytes ≡ header_form h ++ drop first_gate bytes)
+unfolding header_behind_gate
+behind_gate-Stands file bytes h fits gate e =
+    let n = bind_ok (these_at (λ _. NotAStore file) name_and_version bytes 1) (λ name_end. width_at file bytes name_end >>= λ width. these_at (Damaged file) header_zeros bytes width.1 >>= λ zeros_end. generation_at file bytes zeros_end >>= λ generation. Ok (record { width = width.0; generation = generation.0 })) h e in
+    let w = bind_ok (width_at file bytes n.0) (λ width. these_at (Damaged file) header_zeros bytes width.1 >>= λ zeros_end. generation_at file bytes zeros_end >>= λ generation. Ok (record { width = width.0; generation = generation.0 })) h n.2 in
+    let z = bind_ok (these_at (Damaged file) header_zeros bytes w.0.1) (λ zeros_end. generation_at file bytes zeros_end >>= λ generation. Ok (record { width = w.0.0; generation = generation.0 })) h w.2 in
+    let g = bind_ok (generation_at file bytes z.0) (λ generation. Ok (record { width = w.0.0; generation = generation.0 })) h z.2 in
     let tw = width_at-Stands file bytes n.0 w.0.0 w.0.1 w.1 in
     let tg = generation_at-Stands file bytes z.0 g.0.0 g.0.1 fits g.1 in
     let s3 = Stands-then bytes w.0.1 z.0 g.0.1 header_zeros (to_be_bytes w64 g.0.0) (these_at-Stands (Damaged file) header_zeros bytes w.0.1 z.0 z.1) tg.0 in
     let s2 = Stands-then bytes n.0 w.0.1 g.0.1 (w.0.0 ∷ []) (header_zeros ++ to_be_bytes w64 g.0.0) tw.0 s3 in
     let s1 = Stands-then bytes 1 n.0 g.0.1 name_and_version (w.0.0 ∷ (header_zeros ++ to_be_bytes w64 g.0.0)) (these_at-Stands (λ _. NotAStore file) name_and_version bytes 1 n.0 n.1) s2 in
     let made : Header = record { width = w.0.0; generation = g.0.0 } in
-    let s0 : bytes ≡ header_form made ++ drop g.0.1 bytes = sym (start bytes) ∙ Stands-then bytes 0 1 g.0.1 (1 ∷ []) (name_and_version ++ (w.0.0 ∷ (header_zeros ++ to_be_bytes w64 g.0.0))) (opened bytes o.0) s1 in
+    let s0 : bytes ≡ header_form made ++ drop g.0.1 bytes = sym (start bytes) ∙ Stands-then bytes 0 1 g.0.1 (1 ∷ []) (name_and_version ++ (w.0.0 ∷ (header_zeros ++ to_be_bytes w64 g.0.0))) gate s1 in
     let behind : drop first_gate bytes ≡ drop g.0.1 bytes = ap (drop first_gate) s0 ∙ drop_at (header_form made) (drop g.0.1 bytes) first_gate refl in
     let whole : bytes ≡ header_form made ++ drop first_gate bytes = s0 ∙ ap (λ l. header_form made ++ l) (sym behind) in
-    subst (λ h. IsHeader h × (bytes ≡ header_form h ++ drop first_gate bytes)) (ok_is made a.0 g.2 ∙ some_is a.0 h (ok_is (Some a.0) (Some h) a.2))
+    subst (λ h. IsHeader h × (bytes ≡ header_form h ++ drop first_gate bytes)) (ok_is made h g.2)
     (record { width = tw.1; positive = tg.1; fits = tg.2 }, whole)
   where
     start : (x : List ℕ) → drop 0 x ≡ x
     start [] = refl
     start (c ∷ x) = refl
+
+pub read_headers_are_spelled : ReadHeadersAreSpelled
+unfolding header_of
+read_headers_are_spelled file bytes h fits e =
+    let o = some_if (has_open_header bytes) (header_behind_gate file (take first_gate bytes) >>= λ h. Ok (Some h)) h e in
+    let a = bind_ok (header_behind_gate file (take first_gate bytes)) (λ h. Ok (Some h)) (Some h) o.1 in
+    let t = behind_gate-Stands file (take first_gate bytes) a.0 (AreBytes-take first_gate bytes fits) (opened bytes o.0) a.1 in
+    let none : drop first_gate (take first_gate bytes) ≡ [] = drop_all first_gate (take first_gate bytes) (omega (arith, length-take first_gate bytes)) in
+    let front : take first_gate bytes ≡ header_form a.0 = t.1 ∙ ap (λ l. header_form a.0 ++ l) none ∙ append-nil (header_form a.0) in
+    subst (λ h. IsHeader h × (bytes ≡ header_form h ++ drop first_gate bytes)) (some_is a.0 h (ok_is (Some a.0) (Some h) a.2))
+    (t.0, sym (take-append-drop first_gate bytes) ∙ ap (λ l. l ++ drop first_gate bytes) front)

@@ -1,5 +1,5 @@
 -- The header of a journal file: its gate, the name and version, the bits of a token, zeros, the generation.
-use Rattle.std.specs.Prelude.{◌≡◌, ℕ, ◌^◌, ◌<◌, Bool, true, ◌&&◌, ◌||◌, nat_lt, ◌==◌, if◌then◌else◌, List, [], ◌∷◌, ◌++◌, length, get_or, replicate, Option, Some, None, Result, Ok, Err}
+use Rattle.std.specs.Prelude.{◌≡◌, ℕ, ◌^◌, ◌<◌, Bool, true, ◌&&◌, ◌||◌, nat_lt, ◌==◌, if◌then◌else◌, List, [], ◌∷◌, ◌++◌, length, get_or, take, replicate, Option, Some, None, Result, Ok, Err}
 use Rattle.std.specs.Int.{w64, to_be_bytes}
 use Rattle.base_model.specs.Fields.{Field, ◌>>=◌}
 use Rattle.store_model.specs.Fields.{byte_at, these_at, big_endian_at}
@@ -57,7 +57,7 @@ generation_at file bytes at = do
   g ← big_endian_at (Damaged file) w64 bytes at
   if g.0 == 0 then Err (Damaged file at) else Ok g
 
--- the header behind its gate
+-- the header behind its gate, in the bytes in front of the first record's gate
 unfoldable pub header_behind_gate : ℕ → List ℕ → Result Header StoreFault
 header_behind_gate file bytes = do
   name_end ← these_at (λ _. NotAStore file) name_and_version bytes 1
@@ -73,4 +73,4 @@ has_open_header bytes = nat_lt first_gate (length bytes) && get_or bytes 0 0 == 
 -- the header of the file with this number; None where it is closed
 unfoldable pub header_of : ℕ → List ℕ → Result (Option Header) StoreFault
 header_of file bytes =
-    if has_open_header bytes then (header_behind_gate file bytes >>= λ h. Ok (Some h)) else Ok None
+    if has_open_header bytes then (header_behind_gate file (take first_gate bytes) >>= λ h. Ok (Some h)) else Ok None
