@@ -1,8 +1,9 @@
 -- What files hold and stand for: at most one list of records, and at most one map.
-use Rattle.std.proofs.Common.{◌≡◌, ℕ, Bool, true, false, cond, List, [], ◌∷◌, ◌++◌, drop, Option, Some, None, Result, Ok, Err, refl, sym, ap, ◌∙◌, arith, subst, ltb}
+use Rattle.std.proofs.Common.{◌≡◌, ◌≢◌, ℕ, ◌≤◌, Bool, true, false, cond, List, [], ◌∷◌, ◌++◌, drop, Option, Some, None, Result, Ok, Err, refl, sym, ap, ◌∙◌, arith, subst, ltb}
 use Rattle.std.specs.FinMap as map_of
 use Rattle.base_model.specs.Fields.{◌>>=◌}
 use Rattle.base_model.proofs.Results.{ok_is, bind_ok}
+use Rattle.disk_model.specs.Files.{Files}
 use Rattle.store_model.specs.Header.{Header, StoreFault, header_form, header_of, first_gate}
 use Rattle.store_model.specs.Record.{Record, Begins, record_form, records_form}
 use Rattle.store_model.specs.Journal.{IsJournal, Hold, RecordsOf, active, later, after_records}
@@ -64,24 +65,49 @@ chosen (Some a) (Some b) file h e = test (ltb a.generation b.generation) e
     test true e = second (Some a) b file h e
     test false e = first a (Some b) file h e
 
-pub active_file_counts : ActiveFileCounts
-active_file_counts files image file h rs is journal stays =
+-- the active file stays it while it keeps its header and the other of the two stays
+pub active_stays : (files image : Files) (file : ℕ) (h : Header) (rs : List Record) → active files ≡ Ok (Some (file, h)) → IsJournal h rs (image file) → ((other : ℕ) → other ≤ 1 → other ≢ file → image other ≡ files other) → active image ≡ Ok (Some (file, h))
+active_stays files image file h rs is journal stays =
     let a = bind_ok (header_of 0 (files 0)) (λ first. header_of 1 (files 1) >>= λ second. Ok (later first second)) (Some (file, h)) is in
     let b = bind_ok (header_of 1 (files 1)) (λ second. Ok (later a.0 second)) (Some (file, h)) a.2 in
     let picked = ok_is (later a.0 b.0) (Some (file, h)) b.2 in
     by_file a.0 b.0 a.1 b.1 picked (chosen a.0 b.0 file h picked)
   where
-    both : (a b : Option Header) → header_of 0 (image 0) ≡ Ok a → header_of 1 (image 1) ≡ Ok b → later a b ≡ Some (file, h) → Hold image rs
+    both : (a b : Option Header) → header_of 0 (image 0) ≡ Ok a → header_of 1 (image 1) ≡ Ok b → later a b ≡ Some (file, h) → active image ≡ Ok (Some (file, h))
     both a b first second picked =
-        let whole : active image ≡ Ok (Some (file, h)) = rw (first, second) (ap (λ x. Ok x) picked) in
-        subst (RecordsOf image rs) (sym whole) journal
+        rw (first, second) (ap (λ x. Ok x) picked)
 
-    by_file : (a b : Option Header) → header_of 0 (files 0) ≡ Ok a → header_of 1 (files 1) ≡ Ok b → later a b ≡ Some (file, h) → Chosen a b file h → Hold image rs
+    by_file : (a b : Option Header) → header_of 0 (files 0) ≡ Ok a → header_of 1 (files 1) ≡ Ok b → later a b ≡ Some (file, h) → Chosen a b file h → active image ≡ Ok (Some (file, h))
     by_file a b first second picked (First zero same) =
         let here : header_of 0 (image 0) ≡ Ok a = journal_header 0 h rs (image 0) (subst (λ f. IsJournal h rs (image f)) zero journal) ∙ ap (λ x. Ok x) (sym same) in
-        let other : image 1 ≡ files 1 = stays 1 (λ e. absurd (omega (arith, e, zero))) in
+        let other : image 1 ≡ files 1 = stays 1 (omega arith) (λ e. absurd (omega (arith, e, zero))) in
         both a b here (ap (header_of 1) other ∙ second) picked
     by_file a b first second picked (Second one same) =
         let here : header_of 1 (image 1) ≡ Ok b = journal_header 1 h rs (image 1) (subst (λ f. IsJournal h rs (image f)) one journal) ∙ ap (λ x. Ok x) (sym same) in
-        let other : image 0 ≡ files 0 = stays 0 (λ e. absurd (omega (arith, e, one))) in
+        let other : image 0 ≡ files 0 = stays 0 (omega arith) (λ e. absurd (omega (arith, e, one))) in
         both a b (ap (header_of 0) other ∙ first) here picked
+
+pub active_file_counts : ActiveFileCounts
+active_file_counts files image file h rs is journal stays = subst (RecordsOf image rs) (sym (active_stays files image file h rs is journal stays)) journal
+
+-- files hold what their first two hold
+pub hold_as_read : (files image : Files) (rs : List Record) → ((file : ℕ) → file ≤ 1 → image file ≡ files file) → Hold files rs → Hold image rs
+hold_as_read files image rs same hold =
+    let first = same 0 (omega arith) in
+    let second = same 1 (omega arith) in
+    which (header_of 0 (files 0)) (header_of 1 (files 1)) (ap (header_of 0) first) (ap (header_of 1) second) hold
+  where
+    from : (a b : Option Header) → RecordsOf files rs (Ok (later a b)) → RecordsOf image rs (Ok (later a b))
+    from None None r = r
+    from (Some a) None r = subst (λ x. IsJournal a rs x) (sym (same 0 (omega arith))) r
+    from None (Some b) r = subst (λ x. IsJournal b rs x) (sym (same 1 (omega arith))) r
+    from (Some a) (Some b) r = test (ltb a.generation b.generation) r
+      where
+        test : (t : Bool) → RecordsOf files rs (Ok (cond t (Some (1, b)) (Some (0, a)))) → RecordsOf image rs (Ok (cond t (Some (1, b)) (Some (0, a))))
+        test true r = subst (λ x. IsJournal b rs x) (sym (same 1 (omega arith))) r
+        test false r = subst (λ x. IsJournal a rs x) (sym (same 0 (omega arith))) r
+
+    which : (x y : Result (Option Header) StoreFault) → header_of 0 (image 0) ≡ x → header_of 1 (image 1) ≡ y → RecordsOf files rs (x >>= λ first. y >>= λ second. Ok (later first second)) → Hold image rs
+    which (Ok a) (Ok b) e f r = subst (RecordsOf image rs) (sym (ap (λ x. x >>= λ first. header_of 1 (image 1) >>= λ second. Ok (later first second)) e ∙ ap (λ y. y >>= λ second. Ok (later a second)) f)) (from a b r)
+    which (Ok a) (Err d) e f r = absurd r
+    which (Err d) y e f r = absurd r

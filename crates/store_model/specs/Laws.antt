@@ -1,5 +1,5 @@
 -- What the words on journals say of each other.
-use Rattle.std.specs.Prelude.{◌≡◌, ◌≢◌, ◌⊎◌, ℕ, ◌+◌, ◌<◌, List, [], ◌∷◌, ◌++◌, length, drop, Some, Ok}
+use Rattle.std.specs.Prelude.{◌≡◌, ◌≢◌, ◌⊎◌, ℕ, ◌+◌, ◌<◌, ◌≤◌, List, [], ◌∷◌, ◌++◌, length, drop, Some, Ok}
 use Rattle.base_model.specs.Bytes.{AreBytes}
 use Rattle.disk_model.specs.Files.{Files, written, first_touched}
 use Rattle.disk_model.specs.Crash.{IsImage, at_rest, after_write}
@@ -87,8 +87,8 @@ OpeningIsSafe =
     → IsImage (after_write (first_touched (staged bytes rs r) (end_of rs)) (end_of rs + 1) (at_rest (staged bytes rs r))) image
     → IsJournal h rs image ⊎ IsJournal h (rs ++ r ∷ []) image
 
--- what becomes of the active file becomes of the records, as long as it keeps its header and the other file stays
+-- what becomes of the active file becomes of the records, as long as it keeps its header and the other of the two stays
 abbrev pub ActiveFileCounts : Type 0
 ActiveFileCounts =
     (files image : Files) (file : ℕ) (h : Header) (rs : List Record) → active files ≡ Ok (Some (file, h))
-    → IsJournal h rs (image file) → ((other : ℕ) → other ≢ file → image other ≡ files other) → Hold image rs
+    → IsJournal h rs (image file) → ((other : ℕ) → other ≤ 1 → other ≢ file → image other ≡ files other) → Hold image rs
