@@ -1,3 +1,5 @@
 pub mod Steps
 pub mod Rooms
 pub mod Appending
+pub mod GivenBytes
+pub mod HeaderFields

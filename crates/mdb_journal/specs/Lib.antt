@@ -1,3 +1,4 @@
 pub mod Journal
 pub mod Moves
 pub mod Appends
+pub mod Opening

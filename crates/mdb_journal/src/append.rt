@@ -13,6 +13,7 @@ ghost use Rattle.mdb_journal.specs.Moves.{IsSynced, AreSynced, OthersStay, HoldE
 ghost use Rattle.mdb_journal.specs.Appends.{WithOrWithout};
 ghost use Rattle.mdb_journal.specs.declared.fault.JournalFault.TheVariants.{Failed as has_failed, Disk as disk_failed, TooLarge as too_large};
 
+use crate::header::{CLOSED, OPEN};
 use crate::{Journal, JournalFault};
 use crate::synced::write_synced;
 use byteorder::{BigEndian, ByteOrder};
@@ -20,10 +21,6 @@ use disk_world::{Disk, Failed};
 
 // How many bytes a payload has at most.
 const PAYLOAD_LIMIT: usize = 33_554_432;
-
-// The byte of an open gate, and of one that is closed.
-const OPEN: u8 = 1;
-const CLOSED: u8 = 0;
 
 // Fills in the kind, the length and the next gate.
 fn fill(room: &mut [u8], kind: u8)

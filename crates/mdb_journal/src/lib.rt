@@ -7,6 +7,7 @@
 
 mod append;
 mod fault;
+mod header;
 mod journal;
 mod synced;
 

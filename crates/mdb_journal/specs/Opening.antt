@@ -1,0 +1,30 @@
+-- What opening a journal finds.
+use Rattle.std.specs.Prelude.{◌≡◌, ◌≢◌, ◌⊎◌, ℕ, ◌+◌, ◌<◌, ◌≤◌, List, [], ◌∷◌, ◌++◌, length, drop, get_or, Option, Some, None, Result, Ok, Err, IsErrOf}
+use Rattle.std.specs.List.{AllByRecursion}
+use Rattle.disk_model.specs.Files.{Files}
+use Rattle.disk_model.specs.Crash.{IsImageOf}
+use Rattle.disk_model.specs.Moments.{Moments, LeavesOnly, Meanwhile}
+use Rattle.store_model.specs.Header.{Header, StoreFault, NotAStore as not_a_store, Damaged as damaged, first_gate, open_gate}
+use Rattle.store_model.specs.Record.{Record, IsRecord, records_form, record_at}
+use Rattle.store_model.specs.Journal.{Hold, IsJournal, active, end_of}
+use Rattle.mdb_journal.specs.Journal.{JournalState, Knows}
+use Rattle.mdb_journal.specs.declared.fault.JournalFault.{JournalFault}
+use Rattle.mdb_journal.specs.declared.fault.JournalFault.TheVariants.{NotAStore, Damaged, Disk}
+
+-- how a journal tells what is wrong with its files
+abbrev pub fault_of : StoreFault → JournalFault
+fault_of (not_a_store file) = NotAStore file
+fault_of (damaged file at) = Damaged file at
+
+abbrev pub as_answer : {A : Type 0} → Result A StoreFault → Result A JournalFault
+as_answer (Ok x) = Ok x
+as_answer (Err why) = Err (fault_of why)
+
+-- a call answers this, unless the disk fails
+abbrev pub Unless : {A : Type 0} → Result A JournalFault → Result A JournalFault → Type 0
+Unless said result = (result ≡ said) ⊎ IsErrOf result Disk
+
+-- nothing was written
+pub record Untouched (was is : Files) (old new : Moments) : Type 0 where
+  pub seen : is ≡ was
+  pub images : new ≡ old
