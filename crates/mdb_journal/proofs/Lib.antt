@@ -3,3 +3,5 @@ pub mod Rooms
 pub mod Appending
 pub mod GivenBytes
 pub mod HeaderFields
+pub mod RecordFields
+pub mod Walking

@@ -2,3 +2,4 @@ pub mod Journal
 pub mod Moves
 pub mod Appends
 pub mod Opening
+pub mod Walk

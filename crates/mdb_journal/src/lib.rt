@@ -9,7 +9,9 @@ mod append;
 mod fault;
 mod header;
 mod journal;
+mod record;
 mod synced;
 
 pub use fault::JournalFault;
 pub use journal::Journal;
+pub use record::Record;
