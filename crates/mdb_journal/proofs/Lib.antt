@@ -5,3 +5,4 @@ pub mod GivenBytes
 pub mod HeaderFields
 pub mod RecordFields
 pub mod Walking
+pub mod Finding

@@ -1,5 +1,5 @@
 -- What opening a journal finds.
-use Rattle.std.specs.Prelude.{◌≡◌, ◌≢◌, ◌⊎◌, ℕ, ◌+◌, ◌<◌, ◌≤◌, List, [], ◌∷◌, ◌++◌, length, drop, get_or, Option, Some, None, Result, Ok, Err, IsErrOf}
+use Rattle.std.specs.Prelude.{◌≡◌, ◌≢◌, ◌⊎◌, ℕ, ◌+◌, ◌^◌, ◌<◌, ◌≤◌, false, List, [], ◌∷◌, ◌++◌, length, drop, get_or, Option, Some, None, Result, Ok, Err, IsErrOf}
 use Rattle.std.specs.List.{AllByRecursion}
 use Rattle.disk_model.specs.Files.{Files}
 use Rattle.disk_model.specs.Crash.{IsImageOf}
@@ -9,7 +9,8 @@ use Rattle.store_model.specs.Record.{Record, IsRecord, records_form, record_at}
 use Rattle.store_model.specs.Journal.{Hold, IsJournal, active, end_of}
 use Rattle.mdb_journal.specs.Journal.{JournalState, Knows}
 use Rattle.mdb_journal.specs.declared.fault.JournalFault.{JournalFault}
-use Rattle.mdb_journal.specs.declared.fault.JournalFault.TheVariants.{NotAStore, Damaged, Disk}
+use Rattle.mdb_journal.specs.declared.fault.JournalFault.TheVariants.{NotAStore, BranchDiffers, Damaged, Disk}
+use Rattle.mdb_journal.specs.Walk.{IsDamaged}
 
 -- how a journal tells what is wrong with its files
 abbrev pub fault_of : StoreFault → JournalFault
@@ -28,3 +29,34 @@ Unless said result = (result ≡ said) ⊎ IsErrOf result Disk
 pub record Untouched (was is : Files) (old new : Moments) : Type 0 where
   pub seen : is ≡ was
   pub images : new ≡ old
+
+-- a journal of this branch was found
+pub record IsOpened (width : ℕ) (files : Files) (j : JournalState) : Type 0 where
+  pub records : List Record
+  pub knows : Knows j records files
+  pub width_is : knows.header.width ≡ width
+  pub works : j.failed ≡ false
+
+-- the active file has this factor, and another was asked for
+pub record OtherFactor (width : ℕ) (files : Files) (kept asked : ℕ) : Type 0 where
+  pub file : ℕ
+  pub header : Header
+  pub is : active files ≡ Ok (Some (file, header))
+  pub differs : header.width ≢ width
+  pub kept_is : kept ≡ 2 ^ header.width
+  pub asked_is : asked ≡ 2 ^ width
+
+-- the active file, of this branch, has a damaged record
+pub record DamagedRecord (width : ℕ) (files : Files) (file at : ℕ) : Type 0 where
+  pub header : Header
+  pub is : active files ≡ Ok (Some (file, header))
+  pub width_is : header.width ≡ width
+  pub damaged : IsDamaged (files file) at
+
+-- why files are not opened
+abbrev pub Refuses : ℕ → Files → JournalFault → Type 0
+Refuses width files (NotAStore file) = active files ≡ Err (not_a_store file)
+Refuses width files (BranchDiffers kept asked) = OtherFactor width files kept asked
+Refuses width files (Damaged file at) = (active files ≡ Err (damaged file at)) ⊎ DamagedRecord width files file at
+Refuses width files Disk = Unit {0}
+Refuses width files fault = ⊥

@@ -9,6 +9,7 @@ mod append;
 mod fault;
 mod header;
 mod journal;
+mod opening;
 mod record;
 mod synced;
 

@@ -92,9 +92,8 @@ pub(crate) fn read_record<D: Disk>(
 pub(crate) fn walk<D: Disk>(disk: &mut D, file: u8, len: u64) -> Result<u64, JournalFault>
     requires file { file ≤ 1 }
     requires len { len ≤ file_limit }
-    requires header { first_gate < len }
-    ensures end { TellsContents D.words.tells → len ≡ length (D.words.seen disk.old file) → Walked (D.words.seen disk.old file) file result }
-    ensures inside { IfOk result (λ end. end < len) }
+    ensures end { TellsContents D.words.tells → len ≡ length (D.words.seen disk.old file) → first_gate < len → Walked (D.words.seen disk.old file) file result }
+    ensures limit { IfOk result (λ end. end ≤ file_limit) }
     ensures untouched { Untouched (D.words.seen disk.old) (D.words.seen disk.new) (D.words.moments disk.old) (D.words.moments disk.new) }
     ensures later { D.words.faults disk.old ≤ D.words.faults disk.new }
     ensures disk { IsErrOf result JournalFault.Disk → Rose (D.words.faults disk.old) (D.words.faults disk.new) }

@@ -95,7 +95,8 @@ opened (b ∷ bytes) e = ap (λ x. x ∷ take 23 bytes) (same_number b 1 (second
     start [] = refl
     start (c ∷ x) = refl
 
-long_enough : (bytes : List ℕ) → has_open_header bytes ≡ true → first_gate < length bytes
+-- an open header is longer than a header alone
+pub long_enough : (bytes : List ℕ) → has_open_header bytes ≡ true → first_gate < length bytes
 long_enough bytes e = first (ltb first_gate (length bytes)) (eqb (get_or bytes 0 0) 1) e (λ t. grind (arith, nat_tests))
   where
     first : (a b : Bool) → (a && b) ≡ true → (a ≡ true → first_gate < length bytes) → first_gate < length bytes
@@ -136,3 +137,8 @@ read_headers_are_spelled file bytes h fits e =
     let front : take first_gate bytes ≡ header_form a.0 = t.1 ∙ ap (λ l. header_form a.0 ++ l) none ∙ append-nil (header_form a.0) in
     subst (λ h. IsHeader h × (bytes ≡ header_form h ++ drop first_gate bytes)) (some_is a.0 h (ok_is (Some a.0) (Some h) a.2))
     (t.0, sym (take-append-drop first_gate bytes) ∙ ap (λ l. l ++ drop first_gate bytes) front)
+
+-- a header that was read is behind an open gate, and the gate of the first record is there
+pub header_is_open : (file : ℕ) (bytes : List ℕ) (h : Header) → header_of file bytes ≡ Ok (Some h) → first_gate < length bytes
+unfolding header_of
+header_is_open file bytes h e = long_enough bytes (some_if (has_open_header bytes) (header_behind_gate file (take first_gate bytes) >>= λ h. Ok (Some h)) h e).0

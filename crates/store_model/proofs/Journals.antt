@@ -65,6 +65,38 @@ chosen (Some a) (Some b) file h e = test (ltb a.generation b.generation) e
     test true e = second (Some a) b file h e
     test false e = first a (Some b) file h e
 
+-- the active file and its header
+pub active_header : (files : Files) (file : ℕ) (h : Header) → active files ≡ Ok (Some (file, h)) → (file ≤ 1) × (header_of file (files file) ≡ Ok (Some h))
+active_header files file h is =
+    let a = bind_ok (header_of 0 (files 0)) (λ first. header_of 1 (files 1) >>= λ second. Ok (later first second)) (Some (file, h)) is in
+    let b = bind_ok (header_of 1 (files 1)) (λ second. Ok (later a.0 second)) (Some (file, h)) a.2 in
+    which (chosen a.0 b.0 file h (ok_is (later a.0 b.0) (Some (file, h)) b.2)) a.1 b.1
+  where
+    which : {a b : Option Header} → Chosen a b file h → header_of 0 (files 0) ≡ Ok a → header_of 1 (files 1) ≡ Ok b → (file ≤ 1) × (header_of file (files file) ≡ Ok (Some h))
+    which (First zero same) e f = (omega (arith, zero), ap (λ k. header_of k (files k)) zero ∙ e ∙ ap (λ x. Ok x) same)
+    which (Second one same) e f = (omega (arith, one), ap (λ k. header_of k (files k)) one ∙ f ∙ ap (λ x. Ok x) same)
+
+-- where no header is open, both are closed
+pub none_active : (files : Files) → active files ≡ Ok None → (header_of 0 (files 0) ≡ Ok None) × (header_of 1 (files 1) ≡ Ok None)
+none_active files is =
+    let a = bind_ok (header_of 0 (files 0)) (λ first. header_of 1 (files 1) >>= λ second. Ok (later first second)) None is in
+    let b = bind_ok (header_of 1 (files 1)) (λ second. Ok (later a.0 second)) None a.2 in
+    which a.0 b.0 a.1 b.1 (ok_is (later a.0 b.0) None b.2)
+  where
+    picked : (t : Bool) (x y : ℕ × Header) → ◌≡◌ {A = Option (ℕ × Header)} (cond t (Some x) (Some y)) None → ⊥
+    picked true x y e = absurd cc
+    picked false x y e = absurd cc
+
+    which : (a b : Option Header) → header_of 0 (files 0) ≡ Ok a → header_of 1 (files 1) ≡ Ok b → later a b ≡ None → (header_of 0 (files 0) ≡ Ok None) × (header_of 1 (files 1) ≡ Ok None)
+    which None None e f g = (e, f)
+    which (Some a) None e f g = absurd cc
+    which None (Some b) e f g = absurd cc
+    which (Some a) (Some b) e f g = absurd (picked (ltb a.generation b.generation) (1, b) (0, a) g)
+
+-- which headers there are says what is active
+pub active_is : (files : Files) (a b : Option Header) → header_of 0 (files 0) ≡ Ok a → header_of 1 (files 1) ≡ Ok b → active files ≡ Ok (later a b)
+active_is files a b e f = rw (e, f) refl
+
 -- the active file stays it while it keeps its header and the other of the two stays
 pub active_stays : (files image : Files) (file : ℕ) (h : Header) (rs : List Record) → active files ≡ Ok (Some (file, h)) → IsJournal h rs (image file) → ((other : ℕ) → other ≤ 1 → other ≢ file → image other ≡ files other) → active image ≡ Ok (Some (file, h))
 active_stays files image file h rs is journal stays =
