@@ -1,18 +1,18 @@
 -- What a crash leaves while a record is appended.
-use Rattle.std.proofs.Common.{◌≡◌, ◌≢◌, ◌⊎◌, inl, inr, ⊎_elim, ℕ, ◌+◌, ◌≤◌, List, [], ◌∷◌, ◌++◌, length, Some, Ok, refl, sym, ◌∙◌, ap, subst, arith, length-append}
+use Rattle.std.proofs.Common.{◌≡◌, ◌≢◌, inl, inr, ⊎_elim, ℕ, ◌+◌, ◌≤◌, List, [], ◌∷◌, ◌++◌, length, sym, ◌∙◌, ap, subst, arith, length-append}
 use Rattle.disk_model.specs.Files.{Files, Torn, first_touched, written}
-use Rattle.disk_model.specs.Crash.{Unsynced, IsImage, at_rest}
+use Rattle.disk_model.specs.Crash.{Unsynced, IsImage}
 use Rattle.disk_model.specs.Moments.{Moments}
 use Rattle.disk_model.proofs.RestImages.{rest_image}
 use Rattle.store_model.specs.Header.{Header}
 use Rattle.store_model.specs.Record.{Record, IsRecord, record_form, records_form}
-use Rattle.store_model.specs.Journal.{IsJournal, end_of, active}
+use Rattle.store_model.specs.Journal.{IsJournal, end_of}
 use Rattle.store_model.specs.Laws.{gated, staged, appended}
 use Rattle.store_model.proofs.Appends.{torn_staging, torn_opening, appends_add}
 use Rattle.store_model.proofs.Journals.{active_file_counts, active_stays}
 use Rattle.store_model.proofs.Records.{records_form-push}
 use Rattle.mdb_journal.specs.Journal.{JournalState, Knows}
-use Rattle.mdb_journal.specs.Moves.{AreSynced, OthersStay, OthersAsBefore, TornAlone, HoldEither}
+use Rattle.mdb_journal.specs.Moves.{AreSynced, OthersStay, TornAlone, HoldEither}
 use Rattle.mdb_journal.specs.Appends.{WithOrWithout}
 
 module _ (old : Moments) (file : ℕ) (h : Header) (rs : List Record) (r : Record) (bytes : List ℕ) (end : ℕ) (place : end ≡ end_of rs) (j : IsJournal h rs bytes) where

@@ -1,14 +1,12 @@
 -- What the headers and the walk say of the files.
-use Rattle.std.proofs.Common.{◌≡◌, ◌≢◌, inl, inr, ℕ, ◌^◌, ◌<◌, ◌≤◌, true, false, List, [], ◌++◌, length, drop, Some, Ok, Err, Result, refl, sym, ap, ◌∙◌, subst}
+use Rattle.std.proofs.Common.{◌≡◌, ◌≢◌, inl, inr, ℕ, ◌^◌, ◌<◌, true, false, ◌++◌, length, drop, Some, Ok, Err, Result, refl, sym, ap, ◌∙◌, subst}
 use Rattle.base_model.proofs.Results.{ok_is}
 use Rattle.base_model.specs.Bytes.{AreBytes}
 use Rattle.disk_model.specs.Files.{Files}
 use Rattle.store_model.specs.Header.{Header, IsHeader, StoreFault, header_form, first_gate, is_width}
-use Rattle.store_model.specs.Record.{Record, Begins}
-use Rattle.store_model.specs.Journal.{IsJournal, active}
+use Rattle.store_model.specs.Journal.{active}
 use Rattle.store_model.proofs.Headers.{read_headers_are_spelled, header_is_open}
 use Rattle.store_model.proofs.Journals.{active_header}
-use Rattle.mdb_journal.specs.Journal.{JournalState, Knows}
 use Rattle.mdb_journal.specs.Opening.{Unless, as_answer, IsOpened, OtherFactor, DamagedRecord, Refuses}
 use Rattle.mdb_journal.specs.Walk.{Ends, Walked}
 use Rattle.mdb_journal.specs.declared.fault.JournalFault.{JournalFault}

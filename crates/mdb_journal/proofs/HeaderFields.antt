@@ -1,12 +1,12 @@
 -- Reading a header, field by field.
-use Rattle.std.proofs.Common.{◌≡◌, ℕ, ◌+◌, ◌-◌, ◌<◌, ◌≤◌, Bool, true, false, cond, ◌&&◌, List, [], ◌∷◌, length, get_or, take, drop, Result, Ok, Err, Some, None, refl, sym, ap, ◌∙◌, arith, ltb, eqb}
+use Rattle.std.proofs.Common.{◌≡◌, ℕ, ◌-◌, ◌<◌, ◌≤◌, Bool, true, false, cond, ◌&&◌, List, [], ◌∷◌, length, get_or, take, drop, Result, Ok, Err, Some, None, refl, ap, ◌∙◌, arith, ltb, eqb}
 use Rattle.mdb_journal.specs.Opening.{as_answer, fault_of}
 use Rattle.mdb_journal.specs.declared.fault.JournalFault.{JournalFault}
 use Rattle.std.specs.Int.{w64, from_be_bytes}
 use Rattle.std.proofs.lemmas.Bool.Decides.{nat_tests}
 use Rattle.base_model.specs.Fields.{◌>>=◌, bytes_at}
 use Rattle.store_model.specs.Fields.{these_at, byte_at, big_endian_at}
-use Rattle.store_model.specs.Header.{Header, StoreFault, NotAStore, Damaged, header_behind_gate, header_of, has_open_header, width_at, generation_at, name_and_version, header_zeros, is_width, first_gate}
+use Rattle.store_model.specs.Header.{StoreFault, NotAStore, Damaged, header_behind_gate, header_of, width_at, generation_at, name_and_version, header_zeros, is_width, first_gate}
 
 module _ (file : ℕ) (bytes : List ℕ) where
   pub wrong_name : these_at (λ _. NotAStore file) name_and_version bytes 1 ≡ Err (NotAStore file) → header_behind_gate file bytes ≡ Err (NotAStore file)

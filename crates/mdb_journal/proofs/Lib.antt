@@ -6,3 +6,5 @@ pub mod HeaderFields
 pub mod RecordFields
 pub mod Walking
 pub mod Finding
+pub mod FirstHeaders
+pub mod Opened

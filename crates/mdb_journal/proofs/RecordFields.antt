@@ -1,12 +1,12 @@
 -- Reading a record, field by field.
-use Rattle.std.proofs.Common.{◌≡◌, ℕ, ◌+◌, ◌-◌, ◌<◌, ◌≤◌, Bool, true, false, cond, ◌&&◌, List, [], ◌∷◌, length, get_or, take, drop, Result, Ok, Err, refl, sym, ap, ◌∙◌, subst, arith, ltb, eqb, length-drop, length-take, get_or-drop}
+use Rattle.std.proofs.Common.{◌≡◌, ℕ, ◌+◌, ◌-◌, ◌<◌, ◌≤◌, Bool, true, false, List, [], ◌∷◌, length, get_or, take, drop, Ok, Err, refl, sym, ap, ◌∙◌, subst, arith, ltb, length-drop, length-take, get_or-drop}
 use Rattle.std.specs.Int.{w32, from_be_bytes}
 use Rattle.std.proofs.lemmas.Bool.Decides.{nat_tests}
 use Rattle.std.proofs.lemmas.List.{drop-drop}
-use Rattle.base_model.specs.Fields.{◌>>=◌, bytes_at}
+use Rattle.base_model.specs.Fields.{bytes_at}
 use Rattle.store_model.specs.Fields.{byte_at, big_endian_at}
 use Rattle.mdb_journal.specs.Walk.{IsFound}
-use Rattle.store_model.specs.Record.{Record, record_at, is_known}
+use Rattle.store_model.specs.Record.{record_at, is_known}
 
 module _ (bytes : List ℕ) (at : ℕ) where
   no_kind : ltb (at + 1) (length bytes) ≡ false → record_at at bytes at ≡ Err at

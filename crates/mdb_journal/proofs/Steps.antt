@@ -1,5 +1,5 @@
 -- A write and a sync of a file that was synced before.
-use Rattle.std.proofs.Common.{◌≡◌, ◌⊎◌, inl, inr, ℕ, ◌≤◌, List, length, Result, Ok, Err, sym, ◌∙◌, ap, subst, arith}
+use Rattle.std.proofs.Common.{◌≡◌, ◌⊎◌, inl, inr, ℕ, List, Result, Ok, Err, sym, ◌∙◌, ap, subst}
 use Rattle.std.specs.Prelude.{OnOk, OnErr}
 use Rattle.std.proofs.lemmas.Bool.{cases_eq}
 use Rattle.disk_model.specs.Files.{Files, Torn, first_touched}
@@ -14,6 +14,11 @@ use Rattle.mdb_journal.specs.Moves.{Rests, TornAlone}
 pub whatever_answered : {T E P Q : Type 0} (result : Result T E) → OnOk result P → OnErr result Q → Q ⊎ P
 whatever_answered (Ok x) ok err = inr ok
 whatever_answered (Err e) ok err = inl err
+
+-- what follows where a call answered Ok
+pub where_ok : {T E P Q : Type 0} (result : Result T E) → (P → Q) → OnOk result P → OnOk result Q
+where_ok (Ok x) f ok = f ok
+where_ok (Err e) f ok = ok
 
 module _ (file at to : ℕ) (s : List ℕ) (seen : Files) (old : Moments) (rests : Rests file s seen old) (real : IsImage (old.now file) (seen file)) where
   abbrev begins : Unsynced → Unsynced

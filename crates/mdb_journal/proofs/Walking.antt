@@ -1,12 +1,11 @@
 -- From one gate to the next.
-use Rattle.std.proofs.Common.{◌≡◌, ℕ, suc, ◌+◌, ◌<◌, ◌≤◌, List, [], ◌∷◌, ◌++◌, length, get_or, drop, Ok, Err, refl, sym, ap, ◌∙◌, subst, arith, length-append, length-drop, append_assoc, drop-cons}
+use Rattle.std.proofs.Common.{◌≡◌, ℕ, suc, ◌+◌, ◌<◌, List, [], ◌∷◌, ◌++◌, length, get_or, drop, refl, sym, ap, ◌∙◌, arith, length-append, length-drop, append_assoc, drop-cons}
 use Rattle.base_model.specs.Bytes.{AreBytes}
-use Rattle.store_model.specs.Header.{Header, first_gate, header_of}
+use Rattle.store_model.specs.Header.{first_gate}
 use Rattle.store_model.specs.Record.{Record as record_of, record_form, records_form}
-use Rattle.store_model.specs.Journal.{end_of}
 use Rattle.store_model.proofs.Records.{record_at-Stands, records_form-push, IsRecord-push}
 use Rattle.mdb_journal.specs.declared.record.Record.{Record}
-use Rattle.mdb_journal.specs.Walk.{IsFound, IsOpen, Passed, Ends, IsDamaged}
+use Rattle.mdb_journal.specs.Walk.{IsFound, IsOpen, Passed, Ends}
 
 -- in front of the first record
 pub at_first : (bytes : List ℕ) → Passed bytes first_gate

@@ -3,3 +3,4 @@ pub mod Moves
 pub mod Appends
 pub mod Opening
 pub mod Walk
+pub mod FirstHeader

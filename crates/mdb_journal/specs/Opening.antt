@@ -1,12 +1,11 @@
 -- What opening a journal finds.
-use Rattle.std.specs.Prelude.{◌≡◌, ◌≢◌, ◌⊎◌, ℕ, ◌+◌, ◌^◌, ◌<◌, ◌≤◌, false, List, [], ◌∷◌, ◌++◌, length, drop, get_or, Option, Some, None, Result, Ok, Err, IsErrOf}
-use Rattle.std.specs.List.{AllByRecursion}
+use Rattle.std.specs.Prelude.{◌≡◌, ◌≢◌, ◌⊎◌, ℕ, ◌^◌, false, List, Some, Result, Ok, Err, IsErrOf}
 use Rattle.disk_model.specs.Files.{Files}
 use Rattle.disk_model.specs.Crash.{IsImageOf}
 use Rattle.disk_model.specs.Moments.{Moments, LeavesOnly, Meanwhile}
-use Rattle.store_model.specs.Header.{Header, StoreFault, NotAStore as not_a_store, Damaged as damaged, first_gate, open_gate}
-use Rattle.store_model.specs.Record.{Record, IsRecord, records_form, record_at}
-use Rattle.store_model.specs.Journal.{Hold, IsJournal, active, end_of}
+use Rattle.store_model.specs.Header.{Header, StoreFault, NotAStore as not_a_store, Damaged as damaged}
+use Rattle.store_model.specs.Record.{Record}
+use Rattle.store_model.specs.Journal.{Hold, active}
 use Rattle.mdb_journal.specs.Journal.{JournalState, Knows}
 use Rattle.mdb_journal.specs.declared.fault.JournalFault.{JournalFault}
 use Rattle.mdb_journal.specs.declared.fault.JournalFault.TheVariants.{NotAStore, BranchDiffers, Damaged, Disk}
@@ -60,3 +59,13 @@ Refuses width files (BranchDiffers kept asked) = OtherFactor width files kept as
 Refuses width files (Damaged file at) = (active files ≡ Err (damaged file at)) ⊎ DamagedRecord width files file at
 Refuses width files Disk = Unit {0}
 Refuses width files fault = ⊥
+
+-- An opening: until both files are synced a crash leaves what it might have left before, and from then on these records.
+pub record Synced (rs : List Record) (old now : Moments) : Type 0 where
+  pub at : Moments
+  pub before : Meanwhile (IsImageOf old.now) old at
+  pub there : LeavesOnly (λ image. Hold image rs) at.now
+  pub after : Meanwhile (λ image. Hold image rs) at now
+
+abbrev pub Opens : List Record → Moments → Moments → Type 0
+Opens rs old now = Meanwhile (IsImageOf old.now) old now ⊎ Synced rs old now

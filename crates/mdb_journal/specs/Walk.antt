@@ -1,5 +1,5 @@
 -- Walking a journal file from gate to gate.
-use Rattle.std.specs.Prelude.{◌≡◌, ◌≢◌, ℕ, ◌+◌, List, ◌++◌, length, drop, get_or, Option, Some, None, Result, Ok, Err}
+use Rattle.std.specs.Prelude.{◌≡◌, ℕ, ◌+◌, List, ◌++◌, length, drop, get_or, Option, Some, None, Result, Ok, Err}
 use Rattle.std.specs.List.{AllByRecursion}
 use Rattle.store_model.specs.Header.{first_gate, open_gate}
 use Rattle.store_model.specs.Record.{Record as record_of, IsRecord, Begins, records_form, record_at}

@@ -2,11 +2,11 @@
 ghost use Rattle.std.specs.Prelude.{◌≡◌, ◌⊎◌, ℕ, ◌+◌, ◌-◌, ◌^◌, ◌<◌, ◌≤◌, ◌++◌, ◌∷◌, [], List, length, true, false, OnOk, OnErr, IfOk, IsErrOf, Err};
 ghost use Rattle.base_model.specs.Faults.{HasCause, Rose};
 ghost use Rattle.disk_model.specs.Files.{Alone, written, file_limit};
-ghost use Rattle.disk_model.specs.Moments.{Meanwhile};
+ghost use Rattle.disk_model.specs.Moments.{LeavesOnly, Meanwhile};
 ghost use Rattle.disk_model.specs.Words.{TellsContents, TellsImages};
 ghost use Rattle.store_model.specs.Header.{Header};
 ghost use Rattle.store_model.specs.Record.{Record, IsRecord};
-ghost use Rattle.store_model.specs.Journal.{IsJournal, end_of};
+ghost use Rattle.store_model.specs.Journal.{Hold, IsJournal, end_of};
 ghost use Rattle.store_model.specs.Laws.{gated};
 ghost use Rattle.mdb_journal.specs.Journal.{Knows, payload_in, payload_limit, record_in};
 ghost use Rattle.mdb_journal.specs.Moves.{IsSynced, AreSynced, OthersStay, HoldEither};
@@ -14,8 +14,8 @@ ghost use Rattle.mdb_journal.specs.Appends.{WithOrWithout};
 ghost use Rattle.mdb_journal.specs.declared.fault.JournalFault.TheVariants.{Failed as has_failed, Disk as disk_failed, TooLarge as too_large};
 
 use crate::header::{CLOSED, OPEN};
-use crate::{Journal, JournalFault};
 use crate::synced::write_synced;
+use crate::{Journal, JournalFault};
 use byteorder::{BigEndian, ByteOrder};
 use disk_world::{Disk, Failed};
 
@@ -78,6 +78,8 @@ impl Journal {
             → OnOk result (Knows self.new (rs ++ record_in kind room.old ∷ []) (D.words.seen disk.new)) }
         ensures read_others { TellsContents D.words.tells → OthersStay self.old.file (D.words.seen disk.old) (D.words.seen disk.new) }
         ensures synced { TellsImages D.words.tells → AreSynced (D.words.seen disk.old) (D.words.moments disk.old) → OnOk result (AreSynced (D.words.seen disk.new) (D.words.moments disk.new)) }
+        ensures left { TellsImages D.words.tells → (rs : List Record) → IsRecord (record_in kind room.old) → Knows self.old rs (D.words.seen disk.old) → AreSynced (D.words.seen disk.old) (D.words.moments disk.old)
+            → OnOk result (LeavesOnly (λ image. Hold image (rs ++ record_in kind room.old ∷ [])) (D.words.moments disk.new).now) }
         ensures others { TellsImages D.words.tells → OthersStay self.old.file (D.words.moments disk.old).now (D.words.moments disk.new).now }
         ensures meanwhile { TellsImages D.words.tells → (rs : List Record) → IsRecord (record_in kind room.old) → Knows self.old rs (D.words.seen disk.old)
             → AreSynced (D.words.seen disk.old) (D.words.moments disk.old)

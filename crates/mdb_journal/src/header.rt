@@ -18,6 +18,7 @@ pub(crate) const NAME_AND_VERSION: [u8; 8] = [0x4d, 0x44, 0x42, 0x56, 0x41, 0x4c
 
 // The byte of an open gate, and of one that is closed.
 pub(crate) const OPEN: u8 = 1;
+
 pub(crate) const CLOSED: u8 = 0;
 
 // Where the gate of the first record stands.

@@ -1,7 +1,9 @@
 ghost use Rattle.std.specs.Prelude.{◌≡◌, ◌≤◌};
 ghost use Rattle.disk_model.specs.Files.{file_limit};
+ghost use Rattle.store_model.specs.Header.{first_gate};
 ghost use Rattle.mdb_journal.specs.Journal.{JournalState};
 
+use crate::header::FIRST_GATE;
 use std::marker::Model;
 
 /// The records of a disk's files 0 and 1. It belongs to the disk on which it was opened.
@@ -34,6 +36,13 @@ impl Journal {
         ensures { result ≡ self.now.generation }
     {
         self.generation
+    }
+
+    /// The place of the first record's gate.
+    pub fn first(&self) -> u64
+        ensures { result ≡ first_gate }
+    {
+        FIRST_GATE
     }
 
     /// The place of the first gate that is not open.

@@ -7,9 +7,11 @@
 
 mod append;
 mod fault;
+mod first_header;
 mod header;
 mod journal;
 mod opening;
+mod reading;
 mod record;
 mod synced;
 

@@ -8,7 +8,7 @@ ghost use Rattle.store_model.specs.Record.{is_known};
 ghost use Rattle.std.specs.Int.{w32, from_be_bytes};
 ghost use Rattle.mdb_journal.specs.Opening.{Untouched};
 ghost use Rattle.mdb_journal.specs.Walk.{AtGate, Walked};
-ghost use Rattle.mdb_journal.specs.declared.fault.JournalFault.TheVariants.{Disk as disk_failed};
+ghost use Rattle.mdb_journal.specs.declared.fault.JournalFault.TheVariants.{Disk as disk_failed, Failed as has_failed};
 
 use crate::JournalFault;
 use crate::header::{FIRST_GATE, OPEN};
@@ -49,6 +49,7 @@ pub(crate) fn read_record<D: Disk>(
     requires file { file ≤ 1 }
     requires len { len ≤ file_limit }
     ensures found { TellsContents D.words.tells → len ≡ length (D.words.seen disk.old file) → AtGate (D.words.seen disk.old file) file at result }
+    ensures works { IsErrOf result JournalFault.Failed → ⊥ }
     ensures on { IfOk result (λ r. IfSome r (λ r. (at < r.next) × (r.next < len))) }
     ensures untouched { Untouched (D.words.seen disk.old) (D.words.seen disk.new) (D.words.moments disk.old) (D.words.moments disk.new) }
     ensures later { D.words.faults disk.old ≤ D.words.faults disk.new }

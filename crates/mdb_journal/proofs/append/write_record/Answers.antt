@@ -1,5 +1,4 @@
-use Rattle.std.proofs.Common.{refl, ap, ◌∙◌}
-use Rattle.disk_model.specs.Crash.{at_rest}
+use Rattle.std.proofs.Common.{refl}
 use Rattle.disk_model.proofs.Meanwhile.{joined, weaker}
 use Rattle.disk_model.proofs.Telling.{contents_too}
 use Rattle.mdb_journal.proofs.Appending.{staging, staged_is, opening}

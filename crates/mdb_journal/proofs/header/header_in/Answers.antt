@@ -1,4 +1,4 @@
-use Rattle.std.proofs.Common.{◌≡◌, ℕ, true, false, get_or, Ok, refl, sym, ap, ◌∙◌, rules}
+use Rattle.std.proofs.Common.{◌≡◌, true, false, get_or, Ok, sym, ap, ◌∙◌, rules}
 use Rattle.store_model.specs.Header.{NotAStore, Damaged, is_width}
 use Rattle.mdb_journal.specs.Opening.{as_answer}
 use Rattle.mdb_journal.proofs.HeaderFields.{wrong_name, wrong_width, wrong_zeros, wrong_generation, right}

@@ -1,4 +1,4 @@
-use Rattle.std.proofs.Common.{◌≡◌, ℕ, ◌≤◌, inl, inr, List, length, get_or, take, Ok, Some, refl, sym, ap, ◌∙◌, arith, rules}
+use Rattle.std.proofs.Common.{inl, take, Ok, Some, sym, ap, ◌∙◌, arith}
 use Rattle.store_model.specs.Header.{first_gate, header_behind_gate}
 use Rattle.mdb_journal.specs.Opening.{as_answer}
 use Rattle.mdb_journal.proofs.HeaderFields.{too_short, front_read, first_read, closed_gate, open_header, some_answer, fault_answer}

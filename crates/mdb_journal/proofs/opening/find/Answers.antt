@@ -1,10 +1,9 @@
-use Rattle.std.proofs.Common.{◌≡◌, ℕ, ◌<◌, false, List, length, Err, refl, sym, ap, ◌∙◌, subst, arith}
+use Rattle.std.proofs.Common.{◌<◌, false, length, Err, sym, ap, ◌∙◌, subst, arith}
 use Rattle.disk_model.specs.Files.{Files}
 use Rattle.store_model.specs.Header.{first_gate, is_width}
 use Rattle.bit_keys.specs.Branch.{width_of}
 use Rattle.mdb_journal.specs.Opening.{IsOpened}
 use Rattle.mdb_journal.specs.Walk.{Ends, Walked}
-use Rattle.mdb_journal.specs.Journal.{JournalState}
 use Rattle.mdb_journal.proofs.Finding.{answered, other_factor, width_known, header_inside, opened, refused}
 use Rattle.mdb_journal.proofs.opening.find.Goals as goal
 

@@ -1,4 +1,4 @@
-use Rattle.std.proofs.Common.{◌≡◌, ℕ, List, length, sym, ap, ◌∙◌, subst, arith}
+use Rattle.std.proofs.Common.{length, sym, ap, ◌∙◌, subst, arith}
 use Rattle.disk_model.specs.Files.{Files}
 use Rattle.mdb_journal.specs.Walk.{IsOpen, IsFound}
 use Rattle.mdb_journal.proofs.Walking.{one_more, at_end}

@@ -1,4 +1,4 @@
-use Rattle.std.proofs.Common.{◌≡◌, ℕ, ◌-◌, ◌<◌, ◌≤◌, length}
+use Rattle.std.proofs.Common.{◌≡◌, ◌-◌, ◌<◌, ◌≤◌, length}
 use Rattle.disk_model.specs.Files.{file_limit}
 use Rattle.store_model.specs.Header.{first_gate}
 use Rattle.disk_model.specs.Words.{TellsContents}

@@ -1,6 +1,8 @@
-use Rattle.std.proofs.Common.{◌≡◌, [], ◌∷◌, ◌++◌, refl, sym, ap, ◌∙◌, subst}
+use Rattle.std.proofs.Common.{[], ◌∷◌, ◌++◌, sym, subst}
 use Rattle.disk_model.specs.Moments.{Meanwhile}
 use Rattle.disk_model.proofs.Meanwhile.{weaker}
+use Rattle.disk_model.proofs.Telling.{contents_too}
+use Rattle.mdb_journal.proofs.Opened.{all_synced, synced_leave, known_hold}
 use Rattle.mdb_journal.specs.Journal.{Knows, record_in}
 use Rattle.mdb_journal.specs.Moves.{HoldEither}
 use Rattle.mdb_journal.proofs.Appending.{holds_either, known}
@@ -30,3 +32,12 @@ returns-clause-contents g c = λ told rs fits knows.
     let k = subst (λ j. Knows j rs (w.seen c.args.disk.now)) (sym c.self.view_is) knows in
     let contents = c.in-Ok.ensures.contents told in
     known _ rs (record_in c.args.kind c.args.room.now) (w.seen c.args.disk.now) (w.seen c.write_record.new.disk) c.fill.new.room k fits contents.others contents.here c.fill.ensures
+
+pub returns-clause-left : goal.returns-clause-left
+returns-clause-left g c = λ told rs fits knows synced.
+    let w = g.D.Disk.words in
+    let told' = contents_too w.tells told in
+    let after = rs ++ record_in c.args.kind c.args.room.now ∷ [] in
+    let file = c.self.inside.file in
+    let now = all_synced file (w.seen c.args.disk.now) (w.seen c.write_record.new.disk) (w.moments c.args.disk.now) (w.moments c.write_record.new.disk) synced (c.in-Ok.ensures.contents told').others (c.write_record.ensures.others told) (c.in-Ok.ensures.synced told) in
+    synced_leave (w.seen c.write_record.new.disk) (w.moments c.write_record.new.disk) after now (known_hold _ after (w.seen c.write_record.new.disk) (returns-clause-contents g c told' rs fits knows))
