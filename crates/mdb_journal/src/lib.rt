@@ -14,6 +14,8 @@ mod opening;
 mod reading;
 mod record;
 mod synced;
+#[cfg(test)]
+mod tests;
 
 pub use fault::JournalFault;
 pub use journal::Journal;
