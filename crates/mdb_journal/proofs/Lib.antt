@@ -8,3 +8,4 @@ pub mod Walking
 pub mod Finding
 pub mod FirstHeaders
 pub mod Opened
+pub mod NeverDamaged

@@ -69,3 +69,9 @@ pub record Synced (rs : List Record) (old now : Moments) : Type 0 where
 
 abbrev pub Opens : List Record → Moments → Moments → Type 0
 Opens rs old now = Meanwhile (IsImageOf old.now) old now ⊎ Synced rs old now
+
+-- what may be told of files that hold records: that the disk failed, or that they have another factor
+abbrev pub FailsOrDiffers : JournalFault → Type 0
+FailsOrDiffers Disk = Unit {0}
+FailsOrDiffers (BranchDiffers kept asked) = Unit {0}
+FailsOrDiffers fault = ⊥

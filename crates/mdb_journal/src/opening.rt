@@ -10,7 +10,7 @@ ghost use Rattle.store_model.specs.Journal.{Hold, active};
 ghost use Rattle.store_model.specs.Record.{Record};
 ghost use Rattle.mdb_journal.specs.Journal.{Knows};
 ghost use Rattle.mdb_journal.specs.Moves.{AreSynced};
-ghost use Rattle.mdb_journal.specs.Opening.{Untouched, IsOpened, Refuses, Opens};
+ghost use Rattle.mdb_journal.specs.Opening.{Untouched, IsOpened, Refuses, Opens, FailsOrDiffers};
 
 use crate::first_header::make_header;
 use crate::header::{FIRST_GATE, pick};
@@ -87,6 +87,7 @@ impl Journal {
         ensures opened { TellsContents D.words.tells → IfOk result (IsOpened (width_of branch) (D.words.seen disk.new)) }
         ensures records { TellsContents D.words.tells → (rs : List Record) → Hold (D.words.seen disk.old) rs → IfOk result (λ j. Knows j rs (D.words.seen disk.new)) }
         ensures refused { TellsContents D.words.tells → IfErr result (Refuses (width_of branch) (D.words.seen disk.old)) }
+        ensures sound { TellsContents D.words.tells → (rs : List Record) → Hold (D.words.seen disk.old) rs → IfErr result FailsOrDiffers }
         ensures read_others { TellsContents D.words.tells → (file : ℕ) → 2 ≤ file → D.words.seen disk.new file ≡ D.words.seen disk.old file }
         ensures synced { TellsImages D.words.tells → OnOk result (AreSynced (D.words.seen disk.new) (D.words.moments disk.new)) }
         ensures left { TellsImages D.words.tells → (rs : List Record) → Hold (D.words.seen disk.old) rs → OnOk result (LeavesOnly (λ image. Hold image rs) (D.words.moments disk.new).now) }

@@ -6,6 +6,7 @@ use Rattle.store_model.specs.Journal.{Hold, IsJournal}
 use Rattle.mdb_journal.specs.FirstHeader.{BothClosed, first_header}
 use Rattle.mdb_journal.specs.Journal.{Knows}
 use Rattle.mdb_journal.specs.Opening.{IsOpened}
+use Rattle.mdb_journal.proofs.NeverDamaged.{sound_fault}
 use Rattle.mdb_journal.proofs.Opened.{known_records, no_records, both_closed, first_known, first_opened, first_opens, still_synced, synced_leave, known_hold}
 use Rattle.mdb_journal.proofs.journal.Journal.open.Goals as goal
 
@@ -74,3 +75,9 @@ returns-in-Ok-make_header-clause-left g c = λ told rs hold.
     let synced = still_synced (w.seen c.sync_both.new.disk) _ (w.moments c.sync_both.new.disk) _ h.untouched.seen h.untouched.images (c.in-Ok.ensures.synced told) in
     let knows = returns-in-Ok-make_header-clause-records g c (contents_too w.tells told) rs hold in
     synced_leave (w.seen c.make_header.new.disk) (w.moments c.make_header.new.disk) rs (c.in-Ok-make_header.ensures.synced told synced) (known_hold (record { file = 0; generation = 1; end = 24; failed = false }) rs (w.seen c.make_header.new.disk) knows)
+
+pub returns-in-Err-clause-sound : goal.returns-in-Err-clause-sound
+returns-in-Err-clause-sound g c = λ told rs hold.
+    let w = g.D.Disk.words in
+    let mid = w.seen c.sync_both.new.disk in
+    sound_fault mid rs (subst (λ (s : Files). Hold s rs) (sym (c.in-Ok.ensures.contents told)) hold) (width_of c.args.branch) c.in-Err.fault (c.in-Err.ensures.refused told)
