@@ -6,8 +6,10 @@ use Rattle.base_model.proofs.Results.{ok_is, bind_ok}
 use Rattle.disk_model.specs.Files.{Files}
 use Rattle.store_model.specs.Header.{Header, StoreFault, header_form, header_of, first_gate}
 use Rattle.store_model.specs.Record.{Record, Begins, record_form, records_form}
-use Rattle.store_model.specs.Journal.{IsJournal, Hold, RecordsOf, active, later, after_records}
-use Rattle.store_model.specs.Laws.{FilesHoldOneList, FilesStandForOneMap, ActiveFileCounts}
+use Rattle.store_model.specs.Journal.{IsJournal, Hold, RecordsOf, active, later, after_record, after_records}
+use Rattle.trie_model.specs.Maps.{Map}
+use Rattle.store_model.specs.Batch.{BatchFault}
+use Rattle.store_model.specs.Laws.{FilesHoldOneList, FilesStandForOneMap, MapsFollowRecords, ActiveFileCounts}
 use Rattle.store_model.proofs.Headers.{spelled_headers_are_read}
 use Rattle.store_model.proofs.Records.{begins_once}
 
@@ -143,3 +145,13 @@ hold_as_read files image rs same hold =
     which (Ok a) (Ok b) e f r = subst (RecordsOf image rs) (sym (ap (λ x. x >>= λ first. header_of 1 (image 1) >>= λ second. Ok (later first second)) e ∙ ap (λ y. y >>= λ second. Ok (later a second)) f)) (from a b r)
     which (Ok a) (Err d) e f r = absurd r
     which (Err d) y e f r = absurd r
+
+pub maps_follow_records : MapsFollowRecords
+maps_follow_records l m n [] r e = ap (λ x. after_record l x r >>= λ y. Ok y) (ok_is m n e) ∙ alone (after_record l n r)
+  where
+    alone : (x : Result Map BatchFault) → (x >>= λ y. Ok y) ≡ x
+    alone (Ok y) = refl
+    alone (Err why) = refl
+maps_follow_records l m n (q ∷ rs) r e =
+    let s = bind_ok (after_record l m q) (λ next. after_records l next rs) n e in
+    ap (λ x. x >>= λ next. after_records l next (rs ++ r ∷ [])) s.1 ∙ maps_follow_records l s.0 n rs r s.2

@@ -7,7 +7,7 @@ use Rattle.trie_model.specs.Maps.{Limits, Map}
 use Rattle.store_model.specs.Header.{Header, IsHeader, header_form, header_of, first_gate, open_gate}
 use Rattle.store_model.specs.Record.{Record, IsRecord, record_form, record_at}
 use Rattle.store_model.specs.Batch.{Change, IsBatch, FitsNumbers, batch_form, batch_of}
-use Rattle.store_model.specs.Journal.{IsJournal, Hold, Stands, active, end_of}
+use Rattle.store_model.specs.Journal.{IsJournal, Hold, Stands, active, end_of, after_record, after_records}
 
 -- a header that is spelled is read, whatever follows
 abbrev pub SpelledHeadersAreRead : Type 0
@@ -53,6 +53,12 @@ FilesHoldOneList = (files : Files) (rs qs : List Record) → Hold files rs → H
 -- files stand for at most one map
 abbrev pub FilesStandForOneMap : Type 0
 FilesStandForOneMap = (l : Limits) (files : Files) (m n : Map) → Stands l files m → Stands l files n → m ≡ n
+
+-- one record more makes of the map what it makes of the map before it
+abbrev pub MapsFollowRecords : Type 0
+MapsFollowRecords =
+    (l : Limits) (m n : Map) (rs : List Record) (r : Record) → after_records l m rs ≡ Ok n
+    → after_records l m (rs ++ r ∷ []) ≡ after_record l n r
 
 -- a record, and a closed gate behind it
 abbrev pub gated : Record → List ℕ

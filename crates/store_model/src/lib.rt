@@ -5,7 +5,7 @@
 //! Nothing here fails, and nothing here takes memory.
 #![tactic(auto)]
 
-ghost use Rattle.store_model.specs.Laws.{SpelledHeadersAreRead, ReadHeadersAreSpelled, SpelledRecordsAreRead, ReadRecordsAreSpelled, RecordsArePrefixFree, SpelledBatchesAreRead, ReadBatchesAreSpelled, FilesHoldOneList, FilesStandForOneMap, AppendsAdd, StagingIsSafe, OpeningIsSafe, ActiveFileCounts};
+ghost use Rattle.store_model.specs.Laws.{SpelledHeadersAreRead, ReadHeadersAreSpelled, SpelledRecordsAreRead, ReadRecordsAreSpelled, RecordsArePrefixFree, SpelledBatchesAreRead, ReadBatchesAreSpelled, FilesHoldOneList, FilesStandForOneMap, MapsFollowRecords, AppendsAdd, StagingIsSafe, OpeningIsSafe, ActiveFileCounts};
 ghost use Rattle.store_model.specs.Worked.{WorkedJournals, WrongHeaders};
 
 /// A header that is spelled is read, whatever follows it.
@@ -51,6 +51,11 @@ pub fn files_hold_one_list()
 /// Files stand for at most one map.
 pub fn files_stand_for_one_map()
     ensures { FilesStandForOneMap }
+{}
+
+/// One record more makes of the map what it makes of the map before it.
+pub fn maps_follow_records()
+    ensures { MapsFollowRecords }
 {}
 
 /// What becomes of the active file becomes of the records.
