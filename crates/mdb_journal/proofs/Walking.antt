@@ -1,15 +1,10 @@
 -- From one gate to the next.
-use Rattle.std.proofs.Common.{◌≡◌, ℕ, suc, ◌+◌, ◌<◌, List, [], ◌∷◌, ◌++◌, length, get_or, drop, refl, sym, ap, ◌∙◌, arith, length-append, length-drop, append_assoc, drop-cons}
+use Rattle.std.proofs.Common.{◌≡◌, ℕ, suc, ◌+◌, ◌<◌, List, [], ◌∷◌, ◌++◌, length, get_or, drop, sym, ap, ◌∙◌, arith, length-append, length-drop, append_assoc, drop-cons}
 use Rattle.base_model.specs.Bytes.{AreBytes}
-use Rattle.store_model.specs.Header.{first_gate}
 use Rattle.store_model.specs.Record.{Record as record_of, record_form, records_form}
 use Rattle.store_model.proofs.Records.{record_at-Stands, records_form-push, IsRecord-push}
 use Rattle.mdb_journal.specs.declared.record.Record.{Record}
 use Rattle.mdb_journal.specs.Walk.{IsFound, IsOpen, Passed, Ends}
-
--- in front of the first record
-pub at_first : (bytes : List ℕ) → Passed bytes first_gate
-at_first bytes = record { records = []; known = tt; is = refl; place = refl }
 
 -- the byte at a place, and what is behind it
 at_place : (bytes : List ℕ) (at : ℕ) → at < length bytes → drop at bytes ≡ get_or bytes at 0 ∷ drop (at + 1) bytes
