@@ -1,5 +1,5 @@
 // Words in hexadecimal: keys and values.
-ghost use Rattle.std.specs.Prelude.{◌≡◌, ◌%◌, IfSome, IfNone, None, length};
+ghost use Rattle.std.specs.Prelude.{◌≡◌, ◌≤◌, ◌%◌, IfSome, IfNone, IfOk, IsErrOf, None, length, take};
 ghost use Rattle.std.specs.List.{AllPass};
 ghost use Rattle.std.specs.Result.{result_ok};
 ghost use Rattle.hex.specs.Hex.{decode_of, is_hex_digit};
@@ -11,6 +11,7 @@ use crate::digits::{are_digits, read_digits};
 use crate::line::{KeyBytes, LineKind};
 use smallvec::SmallVec;
 use std::alloc::Global;
+use std::marker::Model;
 
 /// The most bytes of a key.
 const KEY_LIMIT: usize = 256;
@@ -45,9 +46,11 @@ fn fault_of_long(digits: &[u8], long: LineKind) -> LineKind
     }
 }
 
-/// The key that a word stands for.
-pub(crate) fn read_key(alloc: Global, word: &[u8]) -> Result<KeyBytes, LineKind>
-    ensures { IsRead (λ key. key.items) result (key_word word.now) }
+// Puts the bytes of the key that a word stands for at the front of the room, and says how many they are.
+fn read_key_bytes(word: &[u8], room: &mut [u8; KEY_LIMIT]) -> Result<usize, LineKind>
+    ensures read { IsRead (λ n. take n room.new) result (key_word word.now) }
+    ensures fits { IfOk result (λ n. n ≤ KEY_LIMIT) }
+    ensures told { IsErrOf result LineKind.NoMemory → ⊥ }
 {
     let Some(digits) = digits_of(word) else {
         return Err(LineKind::Hex);
@@ -55,14 +58,62 @@ pub(crate) fn read_key(alloc: Global, word: &[u8]) -> Result<KeyBytes, LineKind>
     if digits.len() > 2 * KEY_LIMIT {
         return Err(fault_of_long(digits, LineKind::LongKey));
     }
-    let mut room = [0u8; KEY_LIMIT];
-    let bytes = &mut room[..digits.len() / 2];
-    if !read_digits(digits, bytes) {
+    let count = digits.len() / 2;
+    if !read_digits(digits, &mut room[..count]) {
         return Err(LineKind::Hex);
     }
-    match SmallVec::from_slice(alloc, bytes) {
+    Ok(count)
+}
+
+/// The key that a word stands for.
+pub(crate) fn read_key(alloc: Global, word: &[u8]) -> Result<KeyBytes, LineKind>
+    ensures { IsRead (λ key. key.items) result (key_word word.now) }
+{
+    let mut room = [0u8; KEY_LIMIT];
+    let count = match read_key_bytes(word, &mut room) {
+        Ok(count) => count,
+        Err(kind) => return Err(kind),
+    };
+    match SmallVec::from_slice(alloc, &room[..count]) {
         Ok(key) => Ok(key),
         Err(_) => Err(LineKind::NoMemory),
+    }
+}
+
+/// A key that stands in place, so that it takes no memory.
+#[derive(Debug, Drop)]
+pub struct KeyWord {
+    room: [u8; KEY_LIMIT],
+    count: usize,
+}
+
+impl Model for KeyWord {
+    ghost use Rattle.std.specs.Prelude.{ℕ, ◌≤◌, List, take};
+
+    ghost Value = { List ℕ };
+
+    ghost view = { λ key. take key.count key.room };
+
+    ghost invariant = { λ key. key.count ≤ 256 };
+}
+
+impl KeyWord {
+    /// Its bytes.
+    pub fn as_slice(&self) -> &[u8]
+        ensures { result.now ≡ self.now }
+    {
+        &self.room[..self.count]
+    }
+}
+
+/// The key that a word stands for; None where it stands for none.
+pub fn read_key_word(word: &[u8]) -> Option<KeyWord>
+    ensures { result ≡ result_ok (key_word word.now) }
+{
+    let mut room = [0u8; KEY_LIMIT];
+    match read_key_bytes(word, &mut room) {
+        Ok(count) => Some(KeyWord { room, count }),
+        Err(_) => None,
     }
 }
 

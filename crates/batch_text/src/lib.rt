@@ -1,5 +1,5 @@
 //! Lines of text: what a line asks for, or why it is not understood, and a reader that gives the
-//! lines of a source one after another.
+//! lines of a source one after another. A key alone can be read of a word too.
 //!
 //! It stands on `mdb_base` and on the words of `text_model`. A `LineFault` says which line is not
 //! understood, and why; a `ReaderFault` says why no line is given. Which lines an input may have is
@@ -12,5 +12,6 @@ mod line;
 mod reader;
 mod words;
 
+pub use hex_words::{KeyWord, read_key_word};
 pub use line::{InputKind, KeyBytes, Line, LineFault, LineKind, read_line};
 pub use reader::{LineReader, ReaderFault};

@@ -1,6 +1,6 @@
 // What a line asks for, read from its bytes.
 ghost use Rattle.std.specs.Prelude.{◌≡◌, IfOk, IfErr, Ok};
-ghost use Rattle.text_model.specs.ReadLine.{put_words, del_words, line_of_words, read_line as line_of};
+ghost use Rattle.text_model.specs.ReadLine.{put_words, del_words, batch_words, commit_words, script_words, line_of_words, read_line as line_of};
 ghost use Rattle.text_model.specs.Words.{words_of};
 ghost use Rattle.batch_text.specs.SeenLine.{seen_input, seen_line, IsFaultOf, IsRead};
 
@@ -20,6 +20,8 @@ pub type KeyBytes = SmallVec<u8, 32>;
 pub enum InputKind {
     /// `put KEY VALUE` and `del KEY`.
     Batch,
+    /// These, and `commit`.
+    Script,
 }
 
 /// Why a line is not understood: the first of these in their order, of words the leftmost.
@@ -59,6 +61,8 @@ pub enum Line {
     Put { key: KeyBytes, value: Vec<u8> },
     /// No value at a key.
     Del { key: KeyBytes },
+    /// That the pending batch is committed: the changes of the lines before it.
+    Commit,
 }
 
 /// Reads the line of this number in an input of this kind.
@@ -98,15 +102,41 @@ fn read_words(alloc: Global, line: &[u8], kind: InputKind) -> Result<Line, LineK
         return Ok(Line::Skip);
     };
     match kind {
-        InputKind::Batch => {
-            if command == b"put".as_slice() {
-                return read_put(alloc, rest);
-            }
-            if command == b"del".as_slice() {
-                return read_del(alloc, rest);
-            }
-            Err(LineKind::Word)
-        }
+        InputKind::Batch => read_change(alloc, command, rest),
+        InputKind::Script => read_script(alloc, command, rest),
+    }
+}
+
+// A line of a script.
+fn read_script(alloc: Global, command: &[u8], rest: &[u8]) -> Result<Line, LineKind>
+    ensures { IsRead seen_line result (script_words command.now (words_of rest.now)) }
+{
+    if command == b"commit".as_slice() {
+        return read_commit(rest);
+    }
+    read_change(alloc, command, rest)
+}
+
+// A line that changes a map.
+fn read_change(alloc: Global, command: &[u8], rest: &[u8]) -> Result<Line, LineKind>
+    ensures { IsRead seen_line result (batch_words command.now (words_of rest.now)) }
+{
+    if command == b"put".as_slice() {
+        return read_put(alloc, rest);
+    }
+    if command == b"del".as_slice() {
+        return read_del(alloc, rest);
+    }
+    Err(LineKind::Word)
+}
+
+// What follows `commit`.
+fn read_commit(rest: &[u8]) -> Result<Line, LineKind>
+    ensures { IsRead seen_line result (commit_words (words_of rest.now)) }
+{
+    match next_word(rest) {
+        Some(_) => Err(LineKind::Count),
+        None => Ok(Line::Commit),
     }
 }
 

@@ -1,2 +1,4 @@
 pub mod InMemory
 pub mod ReadNumbers
+pub mod HeldChanges
+pub mod Batches

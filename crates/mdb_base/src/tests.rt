@@ -4,6 +4,8 @@ use super::*;
 use std::alloc::Global;
 use std::test::Fail;
 
+mod batches;
+
 fn numbers(alloc: Global, all: &[u64]) -> Result<Vec<u64>, Fail> {
     Ok(Vec::from_slice(alloc, all)?)
 }

@@ -34,6 +34,20 @@ fn push_groups(out: &mut Vec<u8>, n: u64) -> Result<(), NoMemory>
     Ok(())
 }
 
+/// How many bytes the shortest spelling of `n` has, which are 1 to 10.
+pub fn uvarint_len(n: u64) -> u64
+    ensures exact { result ≡ length (uvarint n) }
+    ensures few { result ≤ 10 }
+{
+    let mut left = n;
+    let mut count = 1;
+    while left >= 128 {
+        left /= 128;
+        count += 1;
+    }
+    count
+}
+
 /// Why no number is read.
 #[derive(Clone, Copy, Debug, PartialEq, Eq, Error)]
 pub enum VarintFault {

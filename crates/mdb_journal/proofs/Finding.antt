@@ -7,7 +7,8 @@ use Rattle.store_model.specs.Header.{Header, IsHeader, StoreFault, header_form, 
 use Rattle.store_model.specs.Journal.{active}
 use Rattle.store_model.proofs.Headers.{read_headers_are_spelled, header_is_open}
 use Rattle.store_model.proofs.Journals.{active_header}
-use Rattle.mdb_journal.specs.Opening.{Unless, as_answer, IsOpened, OtherFactor, DamagedRecord, Refuses}
+use Rattle.store_model.specs.Refusals.{OtherFactor, DamagedRecord}
+use Rattle.mdb_journal.specs.Opening.{Unless, as_answer, IsOpened, Refuses}
 use Rattle.mdb_journal.specs.Walk.{Ends, Walked}
 use Rattle.mdb_journal.specs.declared.fault.JournalFault.{JournalFault}
 use Rattle.mdb_journal.specs.declared.fault.JournalFault.TheVariants.{Disk, NotAStore, BranchDiffers, Damaged, TooLarge, Failed, NoMemory}

@@ -7,7 +7,7 @@ use Rattle.store_model.specs.Header.{first_gate}
 use Rattle.store_model.specs.Record.{Record, IsRecord, Begins, record_form, records_form, record_at}
 use Rattle.store_model.specs.Journal.{Hold, IsJournal, RecordsOf}
 use Rattle.store_model.proofs.Records.{records_are_prefix_free, record_at-IsRead}
-use Rattle.mdb_journal.specs.Walk.{IsDamaged, IsOpen}
+use Rattle.store_model.specs.Refusals.{IsDamaged, IsOpen}
 use Rattle.mdb_journal.specs.Opening.{Refuses, FailsOrDiffers}
 use Rattle.mdb_journal.specs.declared.fault.JournalFault.{JournalFault}
 use Rattle.mdb_journal.specs.declared.fault.JournalFault.TheVariants.{Disk, NotAStore, BranchDiffers, Damaged, TooLarge, Failed, NoMemory}

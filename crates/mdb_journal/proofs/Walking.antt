@@ -3,8 +3,9 @@ use Rattle.std.proofs.Common.{◌≡◌, ℕ, suc, ◌+◌, ◌<◌, List, [], �
 use Rattle.base_model.specs.Bytes.{AreBytes}
 use Rattle.store_model.specs.Record.{Record as record_of, record_form, records_form}
 use Rattle.store_model.proofs.Records.{record_at-Stands, records_form-push, IsRecord-push}
+use Rattle.store_model.specs.Refusals.{IsOpen, Passed}
 use Rattle.mdb_journal.specs.declared.record.Record.{Record}
-use Rattle.mdb_journal.specs.Walk.{IsFound, IsOpen, Passed, Ends}
+use Rattle.mdb_journal.specs.Walk.{IsFound, Ends}
 
 -- the byte at a place, and what is behind it
 at_place : (bytes : List ℕ) (at : ℕ) → at < length bytes → drop at bytes ≡ get_or bytes at 0 ∷ drop (at + 1) bytes

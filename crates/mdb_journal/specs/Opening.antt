@@ -1,15 +1,15 @@
 -- What opening a journal finds.
-use Rattle.std.specs.Prelude.{◌≡◌, ◌≢◌, ◌⊎◌, ℕ, ◌^◌, false, List, Some, Result, Ok, Err, IsErrOf}
+use Rattle.std.specs.Prelude.{◌≡◌, ◌⊎◌, ℕ, false, List, Result, Ok, Err, IsErrOf}
 use Rattle.disk_model.specs.Files.{Files}
 use Rattle.disk_model.specs.Crash.{IsImageOf}
 use Rattle.disk_model.specs.Moments.{Moments, LeavesOnly, Meanwhile}
-use Rattle.store_model.specs.Header.{Header, StoreFault, NotAStore as not_a_store, Damaged as damaged}
+use Rattle.store_model.specs.Header.{StoreFault, NotAStore as not_a_store, Damaged as damaged}
 use Rattle.store_model.specs.Record.{Record}
 use Rattle.store_model.specs.Journal.{Hold, active}
+use Rattle.store_model.specs.Refusals.{OtherFactor, DamagedRecord}
 use Rattle.mdb_journal.specs.Journal.{JournalState, Knows}
 use Rattle.mdb_journal.specs.declared.fault.JournalFault.{JournalFault}
 use Rattle.mdb_journal.specs.declared.fault.JournalFault.TheVariants.{NotAStore, BranchDiffers, Damaged, Disk}
-use Rattle.mdb_journal.specs.Walk.{IsDamaged}
 
 -- how a journal tells what is wrong with its files
 abbrev pub fault_of : StoreFault → JournalFault
@@ -35,22 +35,6 @@ pub record IsOpened (width : ℕ) (files : Files) (j : JournalState) : Type 0 wh
   pub knows : Knows j records files
   pub width_is : knows.header.width ≡ width
   pub works : j.failed ≡ false
-
--- the active file has this factor, and another was asked for
-pub record OtherFactor (width : ℕ) (files : Files) (kept asked : ℕ) : Type 0 where
-  pub file : ℕ
-  pub header : Header
-  pub is : active files ≡ Ok (Some (file, header))
-  pub differs : header.width ≢ width
-  pub kept_is : kept ≡ 2 ^ header.width
-  pub asked_is : asked ≡ 2 ^ width
-
--- the active file, of this branch, has a damaged record
-pub record DamagedRecord (width : ℕ) (files : Files) (file at : ℕ) : Type 0 where
-  pub header : Header
-  pub is : active files ≡ Ok (Some (file, header))
-  pub width_is : header.width ≡ width
-  pub damaged : IsDamaged (files file) at
 
 -- why files are not opened
 abbrev pub Refuses : ℕ → Files → JournalFault → Type 0

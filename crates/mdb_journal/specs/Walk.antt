@@ -1,9 +1,9 @@
 -- Walking a journal file from gate to gate.
-use Rattle.std.specs.Prelude.{◌≡◌, ℕ, ◌+◌, List, ◌++◌, length, drop, get_or, Option, Some, None, Result, Ok, Err}
-use Rattle.std.specs.List.{AllByRecursion}
-use Rattle.store_model.specs.Header.{first_gate, open_gate}
-use Rattle.store_model.specs.Record.{Record as record_of, IsRecord, Begins, records_form, record_at}
+use Rattle.std.specs.Prelude.{◌≡◌, ℕ, ◌+◌, List, length, drop, Option, Some, None, Result, Ok, Err}
+use Rattle.store_model.specs.Header.{first_gate}
+use Rattle.store_model.specs.Record.{Record as record_of, Begins, record_at}
 use Rattle.store_model.specs.Journal.{end_of}
+use Rattle.store_model.specs.Refusals.{IsOpen, IsDamaged}
 use Rattle.mdb_journal.specs.declared.fault.JournalFault.{JournalFault}
 use Rattle.mdb_journal.specs.declared.fault.JournalFault.TheVariants.{Damaged, Disk}
 use Rattle.mdb_journal.specs.declared.record.Record.{Record}
@@ -15,10 +15,6 @@ pub record IsFound (bytes : List ℕ) (at : ℕ) (r : Record) : Type 0 where
   pub place : r.place ≡ at + 6
   pub length : r.length ≡ length payload
 
--- the gate is open
-abbrev pub IsOpen : List ℕ → ℕ → Type 0
-IsOpen bytes at = get_or bytes at 0 ≡ open_gate
-
 -- What is told of the gate at a place of this file: a record, or None where it is not open. A gate past the end is not open.
 abbrev pub AtGate : List ℕ → ℕ → ℕ → Result (Option Record) JournalFault → Type 0
 AtGate bytes file at (Ok None) = IsOpen bytes at → ⊥
@@ -27,24 +23,11 @@ AtGate bytes file at (Err (Damaged f p)) = (f ≡ file) × (p ≡ at) × IsOpen 
 AtGate bytes file at (Err Disk) = Unit {0}
 AtGate bytes file at (Err fault) = ⊥
 
--- these records stand from the first gate up to this place
-pub record Passed (bytes : List ℕ) (at : ℕ) : Type 0 where
-  pub records : List record_of
-  pub known : AllByRecursion IsRecord records
-  pub is : drop first_gate bytes ≡ records_form records ++ drop at bytes
-  pub place : at ≡ end_of records
-
 -- records, and then a gate at this place that is not open
 pub record Ends (bytes : List ℕ) (end : ℕ) : Type 0 where
   pub records : List record_of
   pub begins : Begins records (drop first_gate bytes)
   pub place : end ≡ end_of records
-
--- records, and then an open gate at this place whose record is outside the format
-pub record IsDamaged (bytes : List ℕ) (at : ℕ) : Type 0 where
-  pub passed : Passed bytes at
-  pub gate : IsOpen bytes at
-  pub outside : record_at at bytes at ≡ Err at
 
 -- what a walk comes to
 abbrev pub Walked : List ℕ → ℕ → Result ℕ JournalFault → Type 0

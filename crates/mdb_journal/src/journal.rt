@@ -47,8 +47,16 @@ impl Journal {
 
     /// The place of the first gate that is not open.
     pub fn end(&self) -> u64
-        ensures { result ≡ self.now.end }
+        ensures is { result ≡ self.now.end }
+        ensures limit { result ≤ file_limit }
     {
         self.end
+    }
+
+    /// Whether the disk failed in a call.
+    pub fn failed(&self) -> bool
+        ensures { result ≡ self.now.failed }
+    {
+        self.failed
     }
 }

@@ -1,11 +1,11 @@
 // Opening a journal.
-ghost use Rattle.std.specs.Prelude.{◌≡◌, ◌⊎◌, ℕ, ◌+◌, ◌^◌, ◌<◌, ◌≤◌, true, List, length, Ok, Err, None, IfOk, OnOk, IfErr, IfSome, IfNone, IsErrOf};
+ghost use Rattle.std.specs.Prelude.{◌≡◌, ◌⊎◌, ℕ, ◌+◌, ◌^◌, ◌<◌, ◌≤◌, true, false, List, length, Ok, Err, None, IfOk, OnOk, IfErr, IfSome, IfNone, IsErrOf};
 ghost use Rattle.base_model.specs.Faults.{HasCause, Rose};
 ghost use Rattle.disk_model.specs.Crash.{IsImageOf};
 ghost use Rattle.disk_model.specs.Moments.{LeavesOnly, Meanwhile};
 ghost use Rattle.disk_model.specs.Words.{TellsContents, TellsImages};
 ghost use Rattle.bit_keys.specs.Branch.{width_of};
-ghost use Rattle.store_model.specs.Header.{is_width};
+ghost use Rattle.store_model.specs.Header.{is_width, first_gate};
 ghost use Rattle.store_model.specs.Journal.{Hold, active};
 ghost use Rattle.store_model.specs.Record.{Record};
 ghost use Rattle.mdb_journal.specs.Journal.{Knows};
@@ -36,6 +36,8 @@ fn find<D: Disk>(disk: &mut D, branch: Branch) -> Result<Option<Journal>, Journa
     ensures found { TellsContents D.words.tells → IfOk result (λ r. IfSome r (IsOpened (width_of branch) (D.words.seen disk.old))) }
     ensures none { TellsContents D.words.tells → IfOk result (λ r. IfNone r (active (D.words.seen disk.old) ≡ Ok None)) }
     ensures refused { TellsContents D.words.tells → IfErr result (Refuses (width_of branch) (D.words.seen disk.old)) }
+    ensures works { IfOk result (λ r. IfSome r (λ j. j.failed ≡ false)) }
+    ensures start { IfOk result (λ r. IfSome r (λ j. first_gate ≤ j.end)) }
     ensures untouched { Untouched (D.words.seen disk.old) (D.words.seen disk.new) (D.words.moments disk.old) (D.words.moments disk.new) }
     ensures later { D.words.faults disk.old ≤ D.words.faults disk.new }
     ensures disk { IsErrOf result JournalFault.Disk → Rose (D.words.faults disk.old) (D.words.faults disk.new) }
@@ -86,6 +88,8 @@ impl Journal {
         ensures found { TellsContents D.words.tells → IfOk result (λ j. IsOpened (width_of branch) (D.words.seen disk.old) j ⊎ (active (D.words.seen disk.old) ≡ Ok None)) }
         ensures opened { TellsContents D.words.tells → IfOk result (IsOpened (width_of branch) (D.words.seen disk.new)) }
         ensures records { TellsContents D.words.tells → (rs : List Record) → Hold (D.words.seen disk.old) rs → IfOk result (λ j. Knows j rs (D.words.seen disk.new)) }
+        ensures works { IfOk result (λ j. j.failed ≡ false) }
+        ensures start { IfOk result (λ j. first_gate ≤ j.end) }
         ensures refused { TellsContents D.words.tells → IfErr result (Refuses (width_of branch) (D.words.seen disk.old)) }
         ensures sound { TellsContents D.words.tells → (rs : List Record) → Hold (D.words.seen disk.old) rs → IfErr result FailsOrDiffers }
         ensures read_others { TellsContents D.words.tells → (file : ℕ) → 2 ≤ file → D.words.seen disk.new file ≡ D.words.seen disk.old file }

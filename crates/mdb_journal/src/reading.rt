@@ -1,5 +1,5 @@
 // What is read of an open journal.
-ghost use Rattle.std.specs.Prelude.{◌≡◌, ◌+◌, ◌≤◌, true, false, length, take, drop, OnOk, OnErr, IsErrOf};
+ghost use Rattle.std.specs.Prelude.{◌≡◌, ◌+◌, ◌≤◌, true, false, length, take, drop, OnOk, OnErr, IfOk, IfSome, IsErrOf};
 ghost use Rattle.base_model.specs.Faults.{Rose};
 ghost use Rattle.disk_model.specs.Words.{TellsContents};
 ghost use Rattle.mdb_journal.specs.Opening.{Untouched};
@@ -14,6 +14,7 @@ impl Journal {
     /// The record behind the gate at that place; None where the gate is not open. It takes no memory.
     pub fn record<D: Disk>(&mut self, disk: &mut D, at: u64) -> Result<Option<Record>, JournalFault>
         ensures found { TellsContents D.words.tells → self.old.failed ≡ false → AtGate (D.words.seen disk.old self.old.file) self.old.file at result }
+        ensures places { IfOk result (λ r. IfSome r (λ r. (r.place ≡ at + 6) × (r.next ≡ r.place + r.length))) }
         ensures failed { self.old.failed ≡ true → IsErrOf result JournalFault.Failed }
         ensures works { self.old.failed ≡ false → IsErrOf result JournalFault.Failed → ⊥ }
         ensures fails { IsErrOf result JournalFault.Disk → self.new ≡ record self.old { failed = true } }

@@ -51,6 +51,7 @@ pub(crate) fn read_record<D: Disk>(
     ensures found { TellsContents D.words.tells → len ≡ length (D.words.seen disk.old file) → AtGate (D.words.seen disk.old file) file at result }
     ensures works { IsErrOf result JournalFault.Failed → ⊥ }
     ensures on { IfOk result (λ r. IfSome r (λ r. (at < r.next) × (r.next < len))) }
+    ensures places { IfOk result (λ r. IfSome r (λ r. (r.place ≡ at + 6) × (r.next ≡ r.place + r.length))) }
     ensures untouched { Untouched (D.words.seen disk.old) (D.words.seen disk.new) (D.words.moments disk.old) (D.words.moments disk.new) }
     ensures later { D.words.faults disk.old ≤ D.words.faults disk.new }
     ensures disk { IsErrOf result JournalFault.Disk → Rose (D.words.faults disk.old) (D.words.faults disk.new) }
@@ -94,6 +95,7 @@ pub(crate) fn walk<D: Disk>(disk: &mut D, file: u8, len: u64) -> Result<u64, Jou
     requires file { file ≤ 1 }
     requires len { len ≤ file_limit }
     ensures end { TellsContents D.words.tells → len ≡ length (D.words.seen disk.old file) → first_gate < len → Walked (D.words.seen disk.old file) file result }
+    ensures start { IfOk result (λ end. first_gate ≤ end) }
     ensures limit { IfOk result (λ end. end ≤ file_limit) }
     ensures untouched { Untouched (D.words.seen disk.old) (D.words.seen disk.new) (D.words.moments disk.old) (D.words.moments disk.new) }
     ensures later { D.words.faults disk.old ≤ D.words.faults disk.new }

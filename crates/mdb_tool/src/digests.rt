@@ -62,6 +62,7 @@ impl Digests {
                 self.remove(&key);
                 Ok(())
             }
+            Line::Commit => Ok(()),
         }
     }
 

@@ -14,7 +14,7 @@ use Rattle.trie_model.specs.Maps.{Map, entry_item, root}
 use Rattle.trie_model.proofs.EntriesRemoved.{other_key, entries-remove}
 use Rattle.text_model.specs.Lines.{input_limit, lines_within}
 use Rattle.text_model.specs.LineKind.{LineKind}
-use Rattle.text_model.specs.ReadLine.{Batch, Line, Skip, Put, Del, read_line}
+use Rattle.text_model.specs.ReadLine.{Batch, Line, Skip, Put, Del, Commit, read_line}
 use Rattle.text_model.specs.MapOfLines.{after_read, after_lines, map_of_lines}
 use Rattle.text_model.specs.Texts.{root_text}
 use Rattle.run_model.specs.Worked.{prints, PrintsOnePair, PrintsZeros, OnePairRuns, EmptyRuns, WrongWordRuns, WrongLineRuns, KeyLimitRuns}
@@ -25,6 +25,7 @@ pairs_after es (Err kind) = es
 pairs_after es (Ok Skip) = es
 pairs_after es (Ok (Put key value)) = put bytes_cmp key value es
 pairs_after es (Ok (Del key)) = where_key bytes_cmp (other_key key) es
+pairs_after es (Ok Commit) = es
 
 abbrev pairs_of : List (List ℕ × List ℕ) → List (List ℕ) → List (List ℕ × List ℕ)
 pairs_of es [] = es
@@ -35,6 +36,7 @@ entries-after m (Err kind) = refl
 entries-after m (Ok Skip) = refl
 entries-after m (Ok (Put key value)) = entries-insert nat_list_cmp_total m key value
 entries-after m (Ok (Del key)) = entries-remove m key
+entries-after m (Ok Commit) = refl
 
 entries-of : (m : Map) (lines : List (List ℕ)) → entries (after_lines m lines) ≡ pairs_of (entries m) lines
 entries-of m [] = refl

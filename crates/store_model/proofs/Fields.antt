@@ -1,16 +1,15 @@
--- One byte, given bytes, numbers of a fixed width, bytes behind their length: what is spelled is read, and what is read is spelled so.
-use Rattle.std.proofs.Common.{◌≡◌, ℕ, zero, suc, ◌+◌, ◌^◌, ◌<◌, ◌≤◌, Bool, true, false, cond, ◌&&◌, List, [], ◌∷◌, ◌++◌, length, get_or, drop, Result, Ok, Err, refl, sym, ap, ◌∙◌, arith, subst, ltb, eqb, length-drop, append_assoc, drop-cons, get_or-drop}
+-- One byte, given bytes, numbers of a fixed width: what is spelled is read, and what is read is spelled so.
+use Rattle.std.proofs.Common.{◌≡◌, ℕ, zero, suc, ◌+◌, ◌^◌, ◌<◌, ◌≤◌, Bool, true, false, ◌&&◌, List, [], ◌∷◌, ◌++◌, length, get_or, drop, Result, Ok, refl, sym, ap, ◌∙◌, arith, subst, ltb, eqb, length-drop, drop-cons, get_or-drop}
 use Rattle.std.specs.Int.{Width, w32, w64, byte_len, bytes_high_first, to_be_bytes, from_be_bytes}
 use Rattle.std.proofs.lemmas.Bool.Decides.{nat_tests}
 use Rattle.std.proofs.lemmas.List.{drop-drop}
 use Rattle.std.proofs.lemmas.Nat.{from_be_bytes-to_be_bytes_4, from_be_bytes-to_be_bytes_8, be_bytes_4, be_bytes_8}
 use Rattle.base_model.specs.Bytes.{AreBytes}
-use Rattle.base_model.specs.Uvarint.{uvarint}
-use Rattle.base_model.specs.Fields.{number_at, bytes_at}
-use Rattle.base_model.proofs.Fields.{got, IsRead, number_at-IsRead, bytes_at-IsRead, Stands, Stands-then, number_at-Stands, bytes_at-Stands, AreBytes-drop, AreBytes-take}
-use Rattle.base_model.proofs.Results.{ok_is, bind_ok, passed, met}
+use Rattle.base_model.specs.Fields.{bytes_at}
+use Rattle.base_model.proofs.Fields.{got, IsRead, bytes_at-IsRead, Stands, Stands-then, bytes_at-Stands, AreBytes-drop, AreBytes-take}
+use Rattle.base_model.proofs.Results.{ok_is, bind_ok, met}
 use Rattle.disk_model.proofs.Bytes.{below_bytes}
-use Rattle.store_model.specs.Fields.{byte_at, these_at, big_endian_at, sized_form, sized_at}
+use Rattle.store_model.specs.Fields.{byte_at, these_at, big_endian_at}
 
 -- ---- one byte
 
@@ -135,30 +134,3 @@ big_endian_at-Stands short w bytes at n next exact fits e =
     let small : AreBytes a.0.0 = subst AreBytes (sym t.2) (AreBytes-take (byte_len w) (drop at bytes) (AreBytes-drop at bytes fits)) in
     let here : Stands bytes at (to_be_bytes w (from_be_bytes w a.0.0)) a.0.1 = subst (λ x. Stands bytes at x a.0.1) (sym (exact.spelled a.0.0 t.1 small)) t.0 in
     subst (λ (p : ℕ × ℕ). Stands bytes at (to_be_bytes w p.0) p.1 × (p.0 < 256 ^ byte_len w)) (ok_is (from_be_bytes w a.0.0, a.0.1) (n, next) a.2) (here, exact.fits a.0.0 small)
-
--- ---- bytes behind their length
-
--- bytes within the limit are read behind their length
-pub sized_at-IsRead : {E : Type 0} (fault : E) (limit : ℕ) (x bytes : List ℕ) (at : ℕ) (rest : List ℕ) → limit < 2 ^ 64 → length x ≤ limit → at ≤ length bytes → drop at bytes ≡ sized_form x ++ rest → IsRead (sized_at fault limit bytes at) x bytes rest
-unfolding sized_at
-sized_at-IsRead fault limit x bytes at rest fits short h e =
-    let n = number_at-IsRead (λ _ _. fault) (length x) bytes at (x ++ rest) (omega (arith, fits, short)) h (e ∙ append_assoc (uvarint (length x)) x rest) in
-    let b = bytes_at-IsRead (λ _. fault) x bytes n.place rest n.inside n.left in
-    let test : ltb limit (length x) ≡ false = not_below limit (length x) short in
-    record { place = b.place; is = rw (n.is, test) b.is; left = b.left; inside = b.inside }
-  where
-    not_below : (a b : ℕ) → b ≤ a → ltb a b ≡ false
-    not_below a b h = grind (arith, nat_tests)
-
--- bytes that were read stand there behind their length, and are within the limit
-pub sized_at-Stands : {E : Type 0} (fault : E) (limit : ℕ) (bytes : List ℕ) (at : ℕ) (x : List ℕ) (next : ℕ) → AreBytes bytes → sized_at fault limit bytes at ≡ got x next → Stands bytes at (sized_form x) next × (length x ≤ limit)
-unfolding sized_at
-sized_at-Stands fault limit bytes at x next fits e =
-    let a = bind_ok (number_at (λ _ _. fault) bytes at) (λ n. cond (ltb limit n.0) (Err fault) (bytes_at (λ _. fault) n.0 bytes n.1)) (x, next) e in
-    let g = passed (ltb limit a.0.0) fault (bytes_at (λ _. fault) a.0.0 bytes a.0.1) (x, next) a.2 in
-    let t = number_at-Stands (λ _ _. fault) bytes at a.0.0 a.0.1 fits a.1 in
-    let u = bytes_at-Stands (λ _. fault) a.0.0 bytes a.0.1 x next g.1 in
-    (Stands-then bytes at a.0.1 next (uvarint (length x)) x (subst (λ n. Stands bytes at (uvarint n) a.0.1) (sym u.1) t.0) u.0, subst (λ n. n ≤ limit) (sym u.1) (short limit a.0.0 g.0))
-  where
-    short : (a b : ℕ) → ltb a b ≡ false → b ≤ a
-    short a b t = grind (arith, nat_tests)

@@ -8,7 +8,7 @@ use Rattle.store_model.specs.Header.{Header, StoreFault, header_form, header_of,
 use Rattle.store_model.specs.Record.{Record, Begins, record_form, records_form}
 use Rattle.store_model.specs.Journal.{IsJournal, Hold, RecordsOf, active, later, after_record, after_records}
 use Rattle.trie_model.specs.Maps.{Map}
-use Rattle.store_model.specs.Batch.{BatchFault}
+use Rattle.batch_model.specs.Batch.{BatchFault}
 use Rattle.store_model.specs.Laws.{FilesHoldOneList, FilesStandForOneMap, MapsFollowRecords, ActiveFileCounts}
 use Rattle.store_model.proofs.Headers.{spelled_headers_are_read}
 use Rattle.store_model.proofs.Records.{begins_once}

@@ -4,10 +4,11 @@ use Rattle.std.specs.FinMap as map_of
 use Rattle.base_model.specs.Fields.{◌>>=◌, number_at, bytes_at, flag_at}
 use Rattle.base_model.specs.ReadUvarint.{uvarint_read}
 use Rattle.trie_model.specs.Maps.{limits}
-use Rattle.store_model.specs.Fields.{byte_at, these_at, big_endian_at, sized_at}
+use Rattle.batch_model.specs.Sized.{sized_at}
+use Rattle.store_model.specs.Fields.{byte_at, these_at, big_endian_at}
 use Rattle.store_model.specs.Header.{Header, IsHeader, header_of, header_behind_gate, width_at, generation_at}
 use Rattle.store_model.specs.Record.{Record}
-use Rattle.store_model.specs.Batch.{key_at, value_at, changes_at, batch_of}
+use Rattle.batch_model.specs.Batch.{key_at, value_at, changes_at, batch_of}
 use Rattle.store_model.specs.Journal.{IsJournal, Hold, RecordsOf, active, later, after_records}
 use Rattle.store_model.specs.Worked.{WorkedJournals, WrongHeaders, worked_header, worked_record, alone, one_pair}
 use Rattle.store_model.proofs.Journals.{journal_header}

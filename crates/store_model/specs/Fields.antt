@@ -1,8 +1,7 @@
--- More fields: one byte, bytes that are given, numbers of a fixed width, and bytes behind their length.
-use Rattle.std.specs.Prelude.{ℕ, ◌+◌, ◌&&◌, nat_lt, ◌==◌, if◌then◌else◌, List, [], ◌∷◌, ◌++◌, length, get_or, Result, Ok, Err}
+-- More fields: one byte, bytes that are given, and numbers of a fixed width.
+use Rattle.std.specs.Prelude.{ℕ, ◌+◌, ◌&&◌, nat_lt, ◌==◌, if◌then◌else◌, List, [], ◌∷◌, length, get_or, Result, Ok, Err}
 use Rattle.std.specs.Int.{Width, byte_len, from_be_bytes}
-use Rattle.base_model.specs.Uvarint.{uvarint}
-use Rattle.base_model.specs.Fields.{Field, ◌>>=◌, number_at, bytes_at}
+use Rattle.base_model.specs.Fields.{Field, ◌>>=◌, bytes_at}
 
 -- one byte
 unfoldable pub byte_at : {E : Type 0} → (ℕ → E) → List ℕ → ℕ → Field E ℕ
@@ -19,13 +18,3 @@ unfoldable pub big_endian_at : {E : Type 0} → (ℕ → E) → Width → List �
 big_endian_at short w bytes at = do
   found ← bytes_at short (byte_len w) bytes at
   Ok (from_be_bytes w found.0, found.1)
-
--- how bytes are spelled behind their length
-abbrev pub sized_form : List ℕ → List ℕ
-sized_form x = uvarint (length x) ++ x
-
--- bytes behind their length, no more than the limit; whatever is wrong, it is one fault
-unfoldable pub sized_at : {E : Type 0} → E → ℕ → List ℕ → ℕ → Field E (List ℕ)
-sized_at fault limit bytes at = do
-  n ← number_at (λ _ _. fault) bytes at
-  if nat_lt limit n.0 then Err fault else bytes_at (λ _. fault) n.0 bytes n.1

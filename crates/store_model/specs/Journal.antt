@@ -6,7 +6,7 @@ use Rattle.disk_model.specs.Files.{Files}
 use Rattle.trie_model.specs.Maps.{Limits, Map}
 use Rattle.store_model.specs.Header.{Header, IsHeader, StoreFault, header_form, header_of, first_gate}
 use Rattle.store_model.specs.Record.{Record, Begins, records_form, batch_kind}
-use Rattle.store_model.specs.Batch.{Change, BatchFault, batch_of}
+use Rattle.batch_model.specs.Batch.{BatchFault, batch_of, after_batch}
 
 -- ---- one file
 
@@ -48,15 +48,6 @@ abbrev pub Hold : Files → List Record → Type 0
 Hold files rs = RecordsOf files rs (active files)
 
 -- ---- maps
-
-abbrev pub put_or_removed : Map → List ℕ → Option (List ℕ) → Map
-put_or_removed m key None = map_of.remove m key
-put_or_removed m key (Some value) = map_of.insert m key value
-
--- a map after the changes of a batch
-abbrev pub after_batch : Map → List Change → Map
-after_batch m [] = m
-after_batch m (c ∷ cs) = after_batch (put_or_removed m c.key c.value) cs
 
 -- a map after a record: a batch changes it, and a clean record doesn't
 abbrev pub after_record : Limits → Map → Record → Result Map BatchFault

@@ -1,12 +1,12 @@
 -- What the words on journals say of each other.
-use Rattle.std.specs.Prelude.{◌≡◌, ◌≢◌, ◌⊎◌, ℕ, ◌+◌, ◌<◌, ◌≤◌, List, [], ◌∷◌, ◌++◌, length, drop, Some, Ok}
+use Rattle.std.specs.Prelude.{◌≡◌, ◌≢◌, ◌⊎◌, ℕ, ◌+◌, ◌<◌, ◌≤◌, List, [], ◌∷◌, ◌++◌, length, drop, Some, Result, Ok}
 use Rattle.base_model.specs.Bytes.{AreBytes}
 use Rattle.disk_model.specs.Files.{Files, written, first_touched}
 use Rattle.disk_model.specs.Crash.{IsImage, at_rest, after_write}
 use Rattle.trie_model.specs.Maps.{Limits, Map}
 use Rattle.store_model.specs.Header.{Header, IsHeader, header_form, header_of, first_gate, open_gate}
 use Rattle.store_model.specs.Record.{Record, IsRecord, record_form, record_at}
-use Rattle.store_model.specs.Batch.{Change, IsBatch, FitsNumbers, batch_form, batch_of}
+use Rattle.store_model.specs.Refusals.{Refusal, Found}
 use Rattle.store_model.specs.Journal.{IsJournal, Hold, Stands, active, end_of, after_record, after_records}
 
 -- a header that is spelled is read, whatever follows
@@ -37,15 +37,6 @@ abbrev pub RecordsArePrefixFree : Type 0
 RecordsArePrefixFree =
     (r s : Record) (x y : List ℕ) → IsRecord r → IsRecord s → record_form r ++ x ≡ record_form s ++ y → (r ≡ s) × (x ≡ y)
 
--- a batch that is spelled is read
-abbrev pub SpelledBatchesAreRead : Type 0
-SpelledBatchesAreRead = (l : Limits) (cs : List Change) → FitsNumbers l → IsBatch l cs → batch_of l (batch_form cs) ≡ Ok cs
-
--- a batch that is read is spelled so, each byte of it
-abbrev pub ReadBatchesAreSpelled : Type 0
-ReadBatchesAreSpelled =
-    (l : Limits) (bytes : List ℕ) (cs : List Change) → AreBytes bytes → batch_of l bytes ≡ Ok cs → IsBatch l cs × (bytes ≡ batch_form cs)
-
 -- files hold at most one list of records
 abbrev pub FilesHoldOneList : Type 0
 FilesHoldOneList = (files : Files) (rs qs : List Record) → Hold files rs → Hold files qs → rs ≡ qs
@@ -53,6 +44,10 @@ FilesHoldOneList = (files : Files) (rs qs : List Record) → Hold files rs → H
 -- files stand for at most one map
 abbrev pub FilesStandForOneMap : Type 0
 FilesStandForOneMap = (l : Limits) (files : Files) (m n : Map) → Stands l files m → Stands l files n → m ≡ n
+
+-- files are found to be one thing: a map, or one reason why they are not opened
+abbrev pub FilesAreFoundOnce : Type 0
+FilesAreFoundOnce = (l : Limits) (w : ℕ) (files : Files) (a b : Result Map Refusal) → Found l w files a → Found l w files b → a ≡ b
 
 -- one record more makes of the map what it makes of the map before it
 abbrev pub MapsFollowRecords : Type 0

@@ -1,7 +1,8 @@
 pub mod Fields
 pub mod Header
 pub mod Record
-pub mod Batch
 pub mod Journal
+pub mod Refusals
+pub mod Openings
 pub mod Laws
 pub mod Worked

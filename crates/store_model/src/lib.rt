@@ -1,11 +1,11 @@
-//! Words for the journal: headers, records, batches, and the map that two files stand for.
+//! Words for the journal: headers, records, and the map that two files stand for.
 //!
-//! It stands on `base_model`, `disk_model` and `trie_model`, and holds no code: each function is
+//! It stands on `base_model`, `disk_model`, `trie_model` and `batch_model`, and holds no code: each function is
 //! empty, and its contract is a law of the definitions in `specs/`, or some of their worked values.
 //! Nothing here fails, and nothing here takes memory.
 #![tactic(auto)]
 
-ghost use Rattle.store_model.specs.Laws.{SpelledHeadersAreRead, ReadHeadersAreSpelled, SpelledRecordsAreRead, ReadRecordsAreSpelled, RecordsArePrefixFree, SpelledBatchesAreRead, ReadBatchesAreSpelled, FilesHoldOneList, FilesStandForOneMap, MapsFollowRecords, AppendsAdd, StagingIsSafe, OpeningIsSafe, ActiveFileCounts};
+ghost use Rattle.store_model.specs.Laws.{SpelledHeadersAreRead, ReadHeadersAreSpelled, SpelledRecordsAreRead, ReadRecordsAreSpelled, RecordsArePrefixFree, FilesHoldOneList, FilesStandForOneMap, FilesAreFoundOnce, MapsFollowRecords, AppendsAdd, StagingIsSafe, OpeningIsSafe, ActiveFileCounts};
 ghost use Rattle.store_model.specs.Worked.{WorkedJournals, WrongHeaders};
 
 /// A header that is spelled is read, whatever follows it.
@@ -33,16 +33,6 @@ pub fn records_are_prefix_free()
     ensures { RecordsArePrefixFree }
 {}
 
-/// A batch that is spelled is read.
-pub fn spelled_batches_are_read()
-    ensures { SpelledBatchesAreRead }
-{}
-
-/// A batch that is read is spelled so, each byte of it.
-pub fn read_batches_are_spelled()
-    ensures { ReadBatchesAreSpelled }
-{}
-
 /// Files hold at most one list of records.
 pub fn files_hold_one_list()
     ensures { FilesHoldOneList }
@@ -51,6 +41,11 @@ pub fn files_hold_one_list()
 /// Files stand for at most one map.
 pub fn files_stand_for_one_map()
     ensures { FilesStandForOneMap }
+{}
+
+/// Files are found to be one map, or not to be opened for one reason.
+pub fn files_are_found_once()
+    ensures { FilesAreFoundOnce }
 {}
 
 /// One record more makes of the map what it makes of the map before it.

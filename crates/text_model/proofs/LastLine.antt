@@ -8,7 +8,7 @@ use Rattle.base_model.specs.Bytes.{bytes_cmp}
 use Rattle.trie_model.specs.Maps.{Map}
 use Rattle.trie_model.proofs.Entries.{tied_equal}
 use Rattle.text_model.specs.LineKind.{LineKind}
-use Rattle.text_model.specs.ReadLine.{Batch, Line, Skip, Put, Del, read_line}
+use Rattle.text_model.specs.ReadLine.{Batch, Line, Skip, Put, Del, Commit, read_line}
 use Rattle.text_model.specs.MapOfLines.{after_read, after_lines}
 use Rattle.text_model.specs.Laws.{IsSilentOn, AreSilentOn, LastLineCounts}
 
@@ -30,6 +30,7 @@ silent_line m k (Err kind) h = refl
 silent_line m k (Ok Skip) h = refl
 silent_line m k (Ok (Put key value)) h = get-insert nat_list_cmp_total m key value k ∙ ap (λ b. cond b (Some value) (get m k)) (untied k key h)
 silent_line m k (Ok (Del key)) h = get-remove nat_list_cmp_total m key k ∙ ap (λ b. cond b None (get m k)) (untied k key h)
+silent_line m k (Ok Commit) h = refl
 
 silent_lines : (m : Map) (k : List ℕ) (lines : List (List ℕ)) → AreSilentOn k lines → get (after_lines m lines) k ≡ get m k
 silent_lines m k [] h = refl

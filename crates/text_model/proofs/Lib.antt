@@ -3,5 +3,9 @@ pub mod LinesWithin
 pub mod SettledLines
 pub mod MapOfLines
 pub mod LastLine
+pub mod PrintedBytes
 pub mod RootText
+pub mod CommitText
+pub mod ValueText
 pub mod WorkedLines
+pub mod WorkedTexts

@@ -1,10 +1,10 @@
 -- The line of a root.
-use Rattle.std.proofs.Common.{◌≡◌, ℕ, zero, suc, ◌+◌, ◌*◌, List, [], ◌∷◌, ◌++◌, length, refl, ap, ◌∙◌, arith, length-append}
+use Rattle.std.proofs.Common.{◌≡◌, ℕ, ◌+◌, ◌*◌, List, [], ◌∷◌, ◌++◌, length, refl, arith, length-append}
 use Rattle.std.specs.Prelude.{codes}
 use Rattle.std.proofs.lemmas.List.{append_cancel_left, append_cancel_right}
 use Rattle.sha2.proofs.Facts256.{length-sha256}
-use Rattle.hex.specs.Hex.{encode_lower, decode_of, lower_digits, IsBytes}
-use Rattle.hex.proofs.HexLemmas.{length-encode_with, decode_of-encode_lower, decode_of-same}
+use Rattle.hex.specs.Hex.{encode_lower, lower_digits}
+use Rattle.hex.proofs.HexLemmas.{length-encode_with}
 use Rattle.base_model.specs.Bytes.{AreBytes}
 use Rattle.trie_model.specs.Hashing.{zero_id, hashed_string}
 use Rattle.trie_model.specs.Items.{Item}
@@ -12,6 +12,7 @@ use Rattle.trie_model.specs.Ids.{id, id_within, node_key, digest_at, children}
 use Rattle.trie_model.specs.Maps.{map_items, root}
 use Rattle.text_model.specs.Texts.{root_text}
 use Rattle.text_model.specs.Laws.{RootLines}
+use Rattle.text_model.proofs.PrintedBytes.{same_digits}
 
 -- an ID has 32 bytes
 length-id : (w : ℕ) (is : List Item) → length (id w is) ≡ 32
@@ -26,17 +27,12 @@ length-line x h =
     let l : length (encode_lower x ++ 10 ∷ []) ≡ length (encode_lower x) + 1 = length-append (encode_lower x) (10 ∷ []) in
     omega arith
 
-byte_at : (bytes : List ℕ) → AreBytes bytes → IsBytes bytes
-byte_at [] h i = omega arith
-byte_at (b ∷ bytes) h zero = h.0
-byte_at (b ∷ bytes) h (suc i) = byte_at bytes h.1 i
-
--- equal lines have equal digits, and these are read back as one string of bytes
-told : (x y : List ℕ) → IsBytes x → IsBytes y → root_text x ≡ root_text y → x ≡ y
+-- equal lines have equal digits
+told : (x y : List ℕ) → AreBytes x → AreBytes y → root_text x ≡ root_text y → x ≡ y
 told x y hx hy e =
     let digits : encode_lower x ≡ encode_lower y =
     append_cancel_right (encode_lower x) (encode_lower y) (10 ∷ []) (append_cancel_left (codes "root ") (encode_lower x ++ 10 ∷ []) (encode_lower y ++ 10 ∷ []) e) in
-    decode_of-same (encode_lower x) x y (decode_of-encode_lower x hx) (ap decode_of digits ∙ decode_of-encode_lower y hy)
+    same_digits x y hx hy digits
 
 pub root_lines : RootLines
-root_lines = record { size = λ w m. length-line (root w m) (length-id w (map_items m)); tells = λ x y hx hy e. told x y (byte_at x hx) (byte_at y hy) e }
+root_lines = record { size = λ w m. length-line (root w m) (length-id w (map_items m)); tells = told }

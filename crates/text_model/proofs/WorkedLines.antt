@@ -1,7 +1,7 @@
 -- The worked lines, by computing.
 use Rattle.std.proofs.Common.{refl}
 use Rattle.hex.specs.Hex.{decode_pairs}
-use Rattle.text_model.specs.WorkedLines.{GoodLines, BadLines}
+use Rattle.text_model.specs.WorkedLines.{GoodLines, BadLines, ScriptLines}
 
 pub good_lines : GoodLines
 unfolding decode_pairs
@@ -10,3 +10,7 @@ good_lines = (refl, refl, refl, refl, refl, refl, refl, refl)
 pub bad_lines : BadLines
 unfolding decode_pairs
 bad_lines = (refl, refl, refl, refl, refl, refl, refl, refl, refl, refl, refl, refl, refl, refl, refl, refl)
+
+pub script_lines : ScriptLines
+unfolding decode_pairs
+script_lines = (refl, refl, refl, refl, refl, refl, refl, refl, refl, refl, refl, refl, refl)

@@ -7,3 +7,4 @@ pub mod MapOfLines
 pub mod Texts
 pub mod Laws
 pub mod WorkedLines
+pub mod WorkedTexts

@@ -11,6 +11,8 @@ use Rattle.text_model.specs.LineKind.{LineKind, TooLong, Word, Count, Hex, LongK
 pub data InputKind : Type 0 where
   -- `put KEY VALUE` and `del KEY`
   Batch : InputKind
+  -- these, and `commit`
+  Script : InputKind
 
 -- what a line asks for
 pub data Line : Type 0 where
@@ -20,6 +22,8 @@ pub data Line : Type 0 where
   Put : List ℕ → List ℕ → Line
   -- no value at a key
   Del : List ℕ → Line
+  -- that the pending batch is committed: the changes of the lines before it
+  Commit : Line
 
 -- a line whose first byte is `#`
 abbrev pub is_comment : List ℕ → Bool
@@ -64,10 +68,22 @@ batch_words command words =
     else if bytes_eq command (codes "del") then del_words words
     else Err Word
 
+-- what follows `commit`: nothing
+abbrev pub commit_words : List (List ℕ) → Result Line LineKind
+commit_words [] = Ok Commit
+commit_words (word ∷ words) = Err Count
+
+-- a line of a script, by its first word and those that follow it
+abbrev pub script_words : List ℕ → List (List ℕ) → Result Line LineKind
+script_words command words =
+    if bytes_eq command (codes "commit") then commit_words words
+    else batch_words command words
+
 -- a line by its words
 abbrev pub line_of_words : InputKind → List (List ℕ) → Result Line LineKind
 line_of_words kind [] = Ok Skip
 line_of_words Batch (command ∷ words) = batch_words command words
+line_of_words Script (command ∷ words) = script_words command words
 
 -- what a line of such an input asks for
 abbrev pub read_line : InputKind → List ℕ → Result Line LineKind

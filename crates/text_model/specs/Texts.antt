@@ -1,10 +1,24 @@
 -- The texts that a run prints, and those of its statuses.
-use Rattle.std.specs.Prelude.{ℕ, List, [], ◌∷◌, ◌++◌, codes, decimal}
+use Rattle.std.specs.Prelude.{ℕ, List, [], ◌∷◌, ◌++◌, Option, Some, None, codes, decimal}
 use Rattle.hex.specs.Hex.{encode_lower}
 
 -- the line of a root
 abbrev pub root_text : List ℕ → List ℕ
 root_text id = codes "root " ++ encode_lower id ++ 10 ∷ []
+
+-- the line of a commit: its number, and the root after it
+abbrev pub commit_text : ℕ → List ℕ → List ℕ
+commit_text number id = codes "commit " ++ decimal number ++ codes " " ++ encode_lower id ++ 10 ∷ []
+
+-- the word that stands for bytes, with small digits: a dash for no bytes
+abbrev pub word_of_bytes : List ℕ → List ℕ
+word_of_bytes [] = codes "-"
+word_of_bytes (b ∷ bytes) = encode_lower (b ∷ bytes)
+
+-- the line of what is at a key: a value, or none
+abbrev pub value_text : Option (List ℕ) → List ℕ
+value_text (Some value) = codes "value " ++ word_of_bytes value ++ 10 ∷ []
+value_text None = codes "none" ++ 10 ∷ []
 
 abbrev pub done_text : List ℕ
 done_text = codes "mdb: done"
@@ -14,6 +28,18 @@ word_text place = codes "mdb: word " ++ decimal place ++ codes " is not understo
 
 abbrev pub line_text : ℕ → List ℕ
 line_text number = codes "mdb: line " ++ decimal number ++ codes " is not understood"
+
+-- the file of this number is no store's
+abbrev pub no_store_text : ℕ → List ℕ
+no_store_text file = codes "mdb: file " ++ decimal file ++ codes " is no store"
+
+-- a store has the one branch factor, and the other was asked for
+abbrev pub branch_text : ℕ → ℕ → List ℕ
+branch_text kept asked = codes "mdb: the store has factor " ++ decimal kept ++ codes ", asked was " ++ decimal asked
+
+-- the file of this number is damaged, and where
+abbrev pub damaged_text : ℕ → ℕ → List ℕ
+damaged_text file place = codes "mdb: file " ++ decimal file ++ codes " is damaged at " ++ decimal place
 
 -- which limit of a run was passed
 pub data LimitKind : Type 0 where
@@ -40,6 +66,9 @@ read_text = codes "mdb: reading failed"
 
 abbrev pub write_text : List ℕ
 write_text = codes "mdb: writing failed"
+
+abbrev pub disk_text : List ℕ
+disk_text = codes "mdb: disk failed"
 
 abbrev pub no_memory_text : List ℕ
 no_memory_text = codes "mdb: no memory"

@@ -1,7 +1,7 @@
--- Worked lines of an input that makes a map. Bytes are in hexadecimal: 09 is a tab, 0d a carriage return.
+-- Worked lines of an input that makes a map, and of a script. Bytes are in hexadecimal: 09 is a tab, 0d a carriage return.
 use Rattle.std.specs.Prelude.{◌≡◌, ℕ, List, [], ◌∷◌, ◌++◌, codes, replicate, Result, Ok, Err}
 use Rattle.text_model.specs.LineKind.{LineKind, Word, Count, Hex, LongKey}
-use Rattle.text_model.specs.ReadLine.{Batch, Line, Skip, Put, Del, read_line}
+use Rattle.text_model.specs.ReadLine.{Batch, Script, Line, Skip, Put, Del, Commit, read_line}
 
 abbrev pub read : List ℕ → Result Line LineKind
 read = read_line Batch
@@ -46,3 +46,23 @@ BadLines =
     × (read (codes "put " ++ replicate 514 0x30 ++ codes " zz") ≡ Err LongKey)
     -- and a word that is not hexadecimal has no length
     × (read (codes "del z" ++ replicate 513 0x30) ≡ Err Hex)
+
+-- lines of a script
+abbrev pub ScriptLines : Type 0
+ScriptLines =
+    (read_line Script (codes "commit") ≡ Ok Commit)
+    × (read_line Script (codes " commit ") ≡ Ok Commit)
+    -- the lines of an input that makes a map are lines of a script
+    × (read_line Script (codes "put 6b 76") ≡ Ok (Put (0x6b ∷ []) (0x76 ∷ [])))
+    × (read_line Script (codes "del 6b") ≡ Ok (Del (0x6b ∷ [])))
+    × (read_line Script (codes "# commit") ≡ Ok Skip)
+    × (read_line Script [] ≡ Ok Skip)
+    × (read_line Script (codes "put 6b") ≡ Err Count)
+    × (read_line Script (codes "put 6b 7") ≡ Err Hex)
+    -- nothing follows `commit`
+    × (read_line Script (codes "commit x") ≡ Err Count)
+    × (read_line Script (codes "comit") ≡ Err Word)
+    × (read_line Script (codes "COMMIT") ≡ Err Word)
+    × (read_line Script (codes "commit\r") ≡ Err Word)
+    -- and an input that makes a map has no commit
+    × (read (codes "commit") ≡ Err Word)

@@ -6,8 +6,9 @@
 //! worked values. Nothing here fails, and nothing here takes memory.
 #![tactic(auto)]
 
-ghost use Rattle.text_model.specs.Laws.{LinesMakeMaps, LastLineCounts, FirstBadLine, CutLines, BadLineStays, OverlongLinesAreBad, RootLines};
-ghost use Rattle.text_model.specs.WorkedLines.{GoodLines, BadLines};
+ghost use Rattle.text_model.specs.Laws.{LinesMakeMaps, LastLineCounts, FirstBadLine, CutLines, BadLineStays, OverlongLinesAreBad, RootLines, CommitLines, ValueLines};
+ghost use Rattle.text_model.specs.WorkedLines.{GoodLines, BadLines, ScriptLines};
+ghost use Rattle.text_model.specs.WorkedTexts.{WorkedTexts};
 
 /// What lines make is a map of byte strings within the limits of keys and values.
 pub fn lines_make_maps()
@@ -44,6 +45,16 @@ pub fn root_lines()
     ensures { RootLines }
 {}
 
+/// The line of a commit tells its number and the root after it.
+pub fn commit_lines()
+    ensures { CommitLines }
+{}
+
+/// The line of what is at a key tells it, and a printed word is read as the bytes that it stands for.
+pub fn value_lines()
+    ensures { ValueLines }
+{}
+
 /// Lines that are understood.
 pub fn good_lines()
     ensures { GoodLines }
@@ -52,4 +63,14 @@ pub fn good_lines()
 /// Lines that are not understood, and their faults.
 pub fn bad_lines()
     ensures { BadLines }
+{}
+
+/// Lines of a script: what they ask for, or their faults.
+pub fn script_lines()
+    ensures { ScriptLines }
+{}
+
+/// Texts that come with a store.
+pub fn worked_texts()
+    ensures { WorkedTexts }
 {}

@@ -8,11 +8,19 @@ enum Asked<'a> {
     Nothing,
     Value { key: &'a [u8], value: &'a [u8] },
     NoValue { key: &'a [u8] },
+    Commit,
 }
 
-fn assert_reads(rt: &impl Abort, alloc: Global, line: &[u8], want: Result<Asked, LineKind>) {
-    match (read_line(alloc, line, 7, InputKind::Batch), want) {
+fn assert_reads(
+    rt: &impl Abort,
+    alloc: Global,
+    kind: InputKind,
+    line: &[u8],
+    want: Result<Asked, LineKind>,
+) {
+    match (read_line(alloc, line, 7, kind), want) {
         (Ok(Line::Skip), Ok(Asked::Nothing)) => {}
+        (Ok(Line::Commit), Ok(Asked::Commit)) => {}
         (Ok(Line::Put { key, value }), Ok(Asked::Value { key: k, value: v })) => {
             assert_eq!(rt; key.as_slice(), k, "key of {line:?}");
             assert_eq!(rt; value.as_slice(), v, "value of {line:?}");
@@ -67,7 +75,42 @@ fn a_line_asks_for_what_its_words_say_or_has_its_first_fault(rt: HostRuntime) {
         (b"del :0", Err(LineKind::Hex)),
     ];
     for (line, want) in rows {
-        assert_reads(&rt, alloc, line, want);
+        assert_reads(&rt, alloc, InputKind::Batch, line, want);
+    }
+}
+
+#[test]
+fn a_script_has_commits_and_no_other_input_has_them(rt: HostRuntime) {
+    let alloc = rt.alloc();
+    let rows: [(InputKind, &[u8], Result<Asked, LineKind>); 14] = [
+        (InputKind::Script, b"commit", Ok(Asked::Commit)),
+        (InputKind::Script, b"\t commit ", Ok(Asked::Commit)),
+        (InputKind::Script, b"", Ok(Asked::Nothing)),
+        (InputKind::Script, b"# commit", Ok(Asked::Nothing)),
+        (
+            InputKind::Script,
+            b"put 6b 76",
+            Ok(Asked::Value {
+                key: b"k",
+                value: b"v",
+            }),
+        ),
+        (
+            InputKind::Script,
+            b"del 6b",
+            Ok(Asked::NoValue { key: b"k" }),
+        ),
+        (InputKind::Script, b"comit", Err(LineKind::Word)),
+        (InputKind::Script, b"Commit", Err(LineKind::Word)),
+        (InputKind::Script, b"commit\r", Err(LineKind::Word)),
+        (InputKind::Script, b"commit x", Err(LineKind::Count)),
+        (InputKind::Script, b"commit commit", Err(LineKind::Count)),
+        (InputKind::Script, b"put 6b", Err(LineKind::Count)),
+        (InputKind::Script, b"del 6", Err(LineKind::Hex)),
+        (InputKind::Batch, b"commit", Err(LineKind::Word)),
+    ];
+    for (kind, line, want) in rows {
+        assert_reads(&rt, alloc, kind, line, want);
     }
 }
 

@@ -1,6 +1,7 @@
 use Rattle.std.proofs.Common.{length, sym, ap, ◌∙◌, subst, arith}
+use Rattle.store_model.specs.Refusals.{IsOpen}
 use Rattle.disk_model.specs.Files.{Files}
-use Rattle.mdb_journal.specs.Walk.{IsOpen, IsFound}
+use Rattle.mdb_journal.specs.Walk.{IsFound}
 use Rattle.mdb_journal.proofs.Walking.{one_more, at_end}
 use Rattle.mdb_journal.proofs.record.walk.Goals as goal
 
@@ -16,6 +17,7 @@ gates-preserved g c =
           let here = subst (λ (s : Files). IsOpen (s c.args.file) c.gates.at × IsFound (s c.args.file) c.gates.at c.in-Ok-Some.record) k.untouched.seen f in
           one_more (w.seen old c.args.file) c.gates.at c.in-Ok-Some.record (g.met.D.Disk.lawful.reads_files told old c.args.file).bytes (omega (arith, len, k.inside header)) (k.passed told len header) here.0 here.1;
       inside = λ header. h.on.1;
+      start = omega (arith, k.start, h.on.0);
       limit = omega (arith, h.on.1, c.requires.len);
       untouched = record { seen = h.untouched.seen ∙ k.untouched.seen; images = h.untouched.images ∙ k.untouched.images };
       later = omega (arith, k.later, h.later);

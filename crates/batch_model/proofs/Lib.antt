@@ -1,0 +1,3 @@
+pub mod SizedBytes
+pub mod Batches
+pub mod SetChanges

@@ -1,0 +1,4 @@
+pub mod Playing
+pub mod Pending
+pub mod Deciding
+pub mod WorkedScripts

@@ -1,0 +1,5 @@
+pub mod Limits
+pub mod Session
+pub mod Script
+pub mod Laws
+pub mod Worked

@@ -1,5 +1,0 @@
-use Rattle.store_model.proofs.Batches.{spelled_batches_are_read}
-use Rattle.store_model.proofs.spelled_batches_are_read.Goals as goal
-
-pub returns : goal.returns
-returns c = spelled_batches_are_read

@@ -1,0 +1,15 @@
+-- Worked texts. Bytes are in hexadecimal: 30 is the digit 0.
+use Rattle.std.specs.Prelude.{◌≡◌, [], ◌∷◌, ◌++◌, codes, replicate, Some, None}
+use Rattle.text_model.specs.Texts.{commit_text, value_text, no_store_text, branch_text, damaged_text}
+
+abbrev pub WorkedTexts : Type 0
+WorkedTexts =
+    (commit_text 1 (replicate 32 0x00) ≡ codes "commit 1 " ++ replicate 64 0x30 ++ codes "\n")
+    × (commit_text 120 (0x6b ∷ 0xaf ∷ []) ≡ codes "commit 120 6baf\n")
+    × (value_text (Some (0x76 ∷ [])) ≡ codes "value 76\n")
+    × (value_text (Some (0x00 ∷ 0xaf ∷ [])) ≡ codes "value 00af\n")
+    × (value_text (Some []) ≡ codes "value -\n")
+    × (value_text None ≡ codes "none\n")
+    × (no_store_text 2 ≡ codes "mdb: file 2 is no store")
+    × (branch_text 16 256 ≡ codes "mdb: the store has factor 16, asked was 256")
+    × (damaged_text 0 24 ≡ codes "mdb: file 0 is damaged at 24")

@@ -1,0 +1,14 @@
+pub mod IndexEntries
+pub mod NextKeys
+pub mod KeptMaps
+pub mod LocalNumbers
+pub mod LocalFields
+pub mod PieceRanges
+pub mod AtOk
+pub mod ReadBatches
+pub mod RecordGates
+pub mod KeptPairs
+pub mod OpenedStores
+pub mod PlacesAfter
+pub mod PlacedMaps
+pub mod WrittenBatches

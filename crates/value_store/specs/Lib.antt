@@ -1,0 +1,9 @@
+pub mod Values
+pub mod Index
+pub mod Heads
+pub mod SeenHeads
+pub mod Pieces
+pub mod Reading
+pub mod Placing
+pub mod Writes
+pub mod Opens
