@@ -1,4 +1,11 @@
-pub mod MapDigests
 pub mod ReadingOfLines
 pub mod UsedBytes
+pub mod Telling
 pub mod RootEnds
+pub mod Openings
+pub mod StoreRuns
+pub mod GetEnds
+pub mod ScriptsSurvive
+pub mod ApplyEnds
+pub mod RunParts
+pub mod ProcessEnds

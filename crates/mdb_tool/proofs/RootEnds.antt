@@ -1,28 +1,31 @@
 -- What a run of `root` promises, by how its reading and its writing ended.
-use Rattle.std.proofs.Common.{◌≡◌, ℕ, ◌<◌, ◌≤◌, nat_le, Bool, List, [], ◌++◌, length, Option, Some, None, refl, sym, ap, ◌∙◌, inl, inr, le_refl}
+use Rattle.std.proofs.Common.{◌≡◌, ℕ, ◌<◌, ◌≤◌, nat_le, Bool, List, ◌++◌, length, Option, Some, None, Result, refl, sym, ap, ◌∙◌, inl, inr}
 use Rattle.std.specs.Prelude.{IfSome}
 use Rattle.std.specs.Io.KnownBytes.{Appends}
 use Rattle.std.proofs.lemmas.Bool.{le-leb, lt-leb}
-use Rattle.std.proofs.lemmas.List.{take_all, append-nil}
+use Rattle.std.proofs.lemmas.List.{take_all}
 use Rattle.base_model.specs.Faults.{Rose}
 use Rattle.base_model.specs.Streams.{AtEnd, AppendsPrefix}
 use Rattle.trie_model.specs.Maps.{Map, map_digests, root}
 use Rattle.text_model.specs.Lines.{input_limit, settled_lines, lines_within}
 use Rattle.text_model.specs.Texts.{Input, root_text}
 use Rattle.text_model.specs.MapOfLines.{map_of_lines, bad_line}
+use Rattle.store_model.specs.Refusals.{Refusal}
 use Rattle.run_model.specs.Outside.{Outside}
 use Rattle.run_model.specs.End.{End, Done, BadLine, Limit, Read, Write, NoMemory}
 use Rattle.run_model.specs.Outcome.{Outcome, silent, EndsAs, Prints, PrintsPrefix, PrintsNothing, IsUndecided, CameTo, IsComplete}
 use Rattle.run_model.specs.Root.{outcome_of, root_outcome, root_decided, RootRuns}
-use Rattle.run_model.specs.Runs.{SharedRuns}
+use Rattle.run_model.specs.Command.{Root}
+use Rattle.run_model.specs.Runs.{SharedRuns, CommandNeeds, command_outcome}
 use Rattle.mdb_tool.specs.declared.map_lines.MapFault.{MapFault}
 use Rattle.mdb_tool.specs.declared.map_lines.MapFault.TheVariants.{Line as AtLine, Read as AtRead, Limit as AtLimit, NoMemory as AtMemory}
 use Rattle.mdb_tool.specs.Ends.{end_of}
+use Rattle.mdb_tool.proofs.Telling.{where_told, always, whole}
 use Rattle.mdb_tool.specs.MapLines.{MakesMap, Makes, FirstBad, IsPastLimit, GoodSoFar, status_of_fault}
 
 -- all that a run of `root` promises
 pub record RootPromises (w : ℕ) (before after : Outside) (end : End) : Type 0 where
-  pub shared : SharedRuns (root_outcome w) before after end
+  pub shared : SharedRuns Root w before after end
   pub root : RootRuns w before after end
 
 -- ---- the outcome
@@ -50,14 +53,6 @@ undecided given within good =
     rw (bad, le-leb (length given) input_limit within) refl
 
 -- ---- of an input that tells
-where_told : (P Q : List ℕ → Type 0) (left : Option (List ℕ)) → ((bytes : List ℕ) → P bytes → Q bytes) → IfSome left P → IfSome left Q
-where_told P Q None gives h = tt
-where_told P Q (Some bytes) gives h = gives bytes h
-
-always : (Q : List ℕ → Type 0) (left : Option (List ℕ)) → ((bytes : List ℕ) → Q bytes) → IfSome left Q
-always Q None holds = tt
-always Q (Some bytes) holds = holds bytes
-
 -- the outcome on the whole input is this one
 Comes : ℕ → Outside → Outcome → Type 0
 Comes w before o = IfSome before.input.left (λ bytes. root_outcome w bytes ≡ o)
@@ -67,9 +62,9 @@ unfolding Comes
 ends_as w before o comes = where_told (λ bytes. root_outcome w bytes ≡ o) (λ bytes. (root_outcome w bytes).end ≡ o.end) before.input.left (λ bytes is. ap (λ (x : Outcome). x.end) is) comes
 
 -- a run that ended as its outcome and printed its text
-came : (w : ℕ) (before after : Outside) (o : Outcome) → Comes w before o → Appends before.output.taken after.output.taken o.text → IsComplete (root_outcome w) before after o.end
+came : (w : ℕ) (before after : Outside) (o : Outcome) → Comes w before o → Appends before.output.taken after.output.taken o.text → IsComplete (CommandNeeds Root w) (command_outcome Root w) before after o.end
 unfolding Comes
-came w before after o comes printed = λ _ _. where_told (λ bytes. root_outcome w bytes ≡ o) (λ bytes. CameTo (root_outcome w bytes) before after o.end) before.input.left (λ bytes is. rw is (inr (refl, printed))) comes
+came w before after o comes printed = λ _ _. where_told (λ bytes. root_outcome w bytes ≡ o) (λ bytes. (found : Result Map Refusal) → CommandNeeds Root w before after found → CameTo (root_outcome w bytes) before after o.end) before.input.left (λ bytes is found _. rw is (inr (refl, printed))) comes
 
 prints : (w : ℕ) (before after : Outside) (o : Outcome) → Comes w before o → Appends before.output.taken after.output.taken o.text → Prints (root_outcome w) before after
 unfolding Comes
@@ -94,6 +89,8 @@ at_line w before after n bad printed kept =
         words = λ i is. let no : ⊥ = cc is in no;
         read = λ is. let no : ⊥ = cc is in absurd no;
         write = λ is. let no : ⊥ = cc is in absurd no;
+        disk = λ is. let no : ⊥ = cc is in absurd no;
+        store = λ why is. let no : ⊥ = cc is in absurd no;
         limit = λ is. let no : ⊥ = cc is in absurd no;
         complete = came w before after (silent (BadLine n)) comes printed;
       };
@@ -119,6 +116,8 @@ at_limit w before after long printed kept =
         words = λ i is. let no : ⊥ = cc is in no;
         read = λ is. let no : ⊥ = cc is in absurd no;
         write = λ is. let no : ⊥ = cc is in absurd no;
+        disk = λ is. let no : ⊥ = cc is in absurd no;
+        store = λ why is. let no : ⊥ = cc is in absurd no;
         limit = λ _. where_told (λ bytes. (input_limit < length bytes) × (bad_line (lines_within input_limit bytes) ≡ None)) (λ bytes. input_limit < length bytes) before.input.left (λ bytes h. h.0) long;
         complete = came w before after (silent (Limit Input)) comes printed;
       };
@@ -141,6 +140,8 @@ at_read w before after rose open_still printed kept = record {
     words = λ i is. let no : ⊥ = cc is in no;
     read = λ _. rose;
     write = λ is. let no : ⊥ = cc is in absurd no;
+    disk = λ is. let no : ⊥ = cc is in absurd no;
+    store = λ why is. let no : ⊥ = cc is in absurd no;
     limit = λ is. let no : ⊥ = cc is in absurd no;
     complete = λ quiet _. absurd (quiet rose);
   };
@@ -163,8 +164,10 @@ at_memory w before after printed kept = record {
     words = λ i is. let no : ⊥ = cc is in no;
     read = λ is. let no : ⊥ = cc is in absurd no;
     write = λ is. let no : ⊥ = cc is in absurd no;
+    disk = λ is. let no : ⊥ = cc is in absurd no;
+    store = λ why is. let no : ⊥ = cc is in absurd no;
     limit = λ is. let no : ⊥ = cc is in absurd no;
-    complete = λ _ _. always (λ bytes. CameTo (root_outcome w bytes) before after NoMemory) before.input.left (λ bytes. inl refl);
+    complete = λ _ _. always (λ bytes. (found : Result Map Refusal) → CommandNeeds Root w before after found → CameTo (root_outcome w bytes) before after NoMemory) before.input.left (λ bytes found _. inl refl);
   };
   root = record {
     done = λ is. let no : ⊥ = cc is in absurd no;
@@ -212,12 +215,14 @@ printed_all w before after text comes end printed kept =
         words = λ i is. let no : ⊥ = cc is in no;
         read = λ is. let no : ⊥ = cc is in absurd no;
         write = λ is. let no : ⊥ = cc is in absurd no;
+        disk = λ is. let no : ⊥ = cc is in absurd no;
+        store = λ why is. let no : ⊥ = cc is in absurd no;
         limit = λ is. let no : ⊥ = cc is in absurd no;
         complete = came w before after o comes printed;
       };
       root = record {
         done = λ _. (ends_as w before o comes, prints w before after o comes printed, end);
-        prefix = prints_prefix w before after o comes (whole before.output.taken after.output.taken printed);
+        prefix = prints_prefix w before after o comes (whole before.output.taken after.output.taken text printed);
         nothing = λ differs _. absurd (differs refl);
         line = λ m is. let no : ⊥ = cc is in absurd no;
         limit = λ kind is. let no : ⊥ = cc is in absurd no;
@@ -226,9 +231,6 @@ printed_all w before after text comes end printed kept =
         undecided = λ is. let no : ⊥ = cc is in absurd no;
       };
     }
-  where
-    whole : (taken taken' : Option (List ℕ)) → Appends taken taken' text → AppendsPrefix taken taken' text
-    whole taken taken' h = (length text, rw (take_all (length text) text (le_refl (length text))) h)
 
 -- its writing failed
 pub printed_part : (w : ℕ) (before after : Outside) (text : List ℕ) → Found w before text → Rose before.output.faults after.output.faults → AppendsPrefix before.output.taken after.output.taken text → after.disk ≡ before.disk → RootPromises w before after Write
@@ -240,6 +242,8 @@ printed_part w before after text comes rose printed kept =
         words = λ i is. let no : ⊥ = cc is in no;
         read = λ is. let no : ⊥ = cc is in absurd no;
         write = λ _. rose;
+        disk = λ is. let no : ⊥ = cc is in absurd no;
+        store = λ why is. let no : ⊥ = cc is in absurd no;
         limit = λ is. let no : ⊥ = cc is in absurd no;
         complete = λ _ quiet. absurd (quiet rose);
       };
@@ -254,8 +258,3 @@ printed_part w before after text comes rose printed kept =
         undecided = λ is. let no : ⊥ = cc is in absurd no;
       };
     }
-
--- an output that was not written to took nothing
-pub took_nothing : (taken : Option (List ℕ)) → Appends taken taken []
-took_nothing None = tt
-took_nothing (Some a) = sym (append-nil a)

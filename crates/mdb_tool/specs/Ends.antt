@@ -1,22 +1,33 @@
 -- How a run ends, as the definitions see its status.
-use Rattle.mdb_base.specs.declared.faults.LimitKind.{LimitKind as LimitOfCode}
-use Rattle.mdb_base.specs.declared.faults.LimitKind.TheVariants.{Input as InputOfCode, Pairs as PairsOfCode, Batch as BatchOfCode, Answers as AnswersOfCode}
 use Rattle.mdb_tool.specs.declared.status.Status.{Status}
-use Rattle.mdb_tool.specs.declared.status.Status.TheVariants.{Done as DoneStatus, BadWords as BadWordsStatus, BadLine as BadLineStatus, Limit as LimitStatus, Read as ReadStatus, Write as WriteStatus, NoMemory as NoMemoryStatus}
-use Rattle.text_model.specs.Texts.{LimitKind, Input, Pairs, Batch, Answers}
-use Rattle.run_model.specs.End.{End, Done, BadWords, BadLine, Limit, Read, Write, NoMemory}
-
-abbrev pub limit_of : LimitOfCode → LimitKind
-limit_of InputOfCode = Input
-limit_of PairsOfCode = Pairs
-limit_of BatchOfCode = Batch
-limit_of AnswersOfCode = Answers
+use Rattle.mdb_tool.specs.declared.status.Status.TheVariants.{Done as DoneStatus, BadWords as BadWordsStatus, BadLine as BadLineStatus, NotAStore as NotAStoreStatus, BranchDiffers as BranchDiffersStatus, Damaged as DamagedStatus, Limit as LimitStatus, Read as ReadStatus, Write as WriteStatus, Disk as DiskStatus, NoMemory as NoMemoryStatus}
+use Rattle.mdb_core.specs.declared.fault.DbFault.{DbFault}
+use Rattle.mdb_core.specs.declared.fault.DbFault.TheVariants.{Disk as DiskFault, NotAStore as NotAStoreFault, BranchDiffers as BranchDiffersFault, Damaged as DamagedFault, Failed as FailedFault, TooMany as TooManyFault, TooLarge as TooLargeFault, Full as FullFault, NoMemory as NoMemoryFault}
+use Rattle.store_model.specs.Refusals.{NotAStore, BranchDiffers, Damaged}
+use Rattle.run_model.specs.End.{End, Done, BadWords, BadLine, NotOpened, Limit, Read, Write, Disk, NoMemory}
+use Rattle.script_run.specs.Ends.{limit_of}
 
 abbrev pub end_of : Status → End
 end_of DoneStatus = Done
 end_of (BadWordsStatus place) = BadWords place
 end_of (BadLineStatus number) = BadLine number
+end_of (NotAStoreStatus file) = NotOpened (NotAStore file)
+end_of (BranchDiffersStatus kept asked) = NotOpened (BranchDiffers kept asked)
+end_of (DamagedStatus file at) = NotOpened (Damaged file at)
 end_of (LimitStatus kind) = Limit (limit_of kind)
 end_of ReadStatus = Read
 end_of WriteStatus = Write
+end_of DiskStatus = Disk
 end_of NoMemoryStatus = NoMemory
+
+-- how a run ends where its store is not opened or read; the last four come from no such call
+abbrev pub end_of_fault : DbFault → End
+end_of_fault DiskFault = Disk
+end_of_fault (NotAStoreFault file) = NotOpened (NotAStore file)
+end_of_fault (BranchDiffersFault kept asked) = NotOpened (BranchDiffers kept asked)
+end_of_fault (DamagedFault file at) = NotOpened (Damaged file at)
+end_of_fault NoMemoryFault = NoMemory
+end_of_fault FailedFault = NoMemory
+end_of_fault TooManyFault = NoMemory
+end_of_fault (TooLargeFault n) = NoMemory
+end_of_fault FullFault = NoMemory

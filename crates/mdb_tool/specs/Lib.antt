@@ -3,4 +3,6 @@ pub mod Ends
 pub mod MapLines
 pub mod Asked
 pub mod Folder
+pub mod Opening
+pub mod Get
 pub mod Process

@@ -12,14 +12,20 @@ usage: mdb FOLDER COMMAND WORDS..
 
 FOLDER is a folder, or - where the command uses none.
 
-commands:
-  root FACTOR    reads lines from standard input and prints the root of the map that they make
-                 FACTOR is 2, 4, 16 or 256, the most children that a node of the trie may have
-                 lines: put KEY VALUE    del KEY    # a comment
-                 KEY and VALUE are hexadecimal digits, or - for no bytes
+FACTOR is 2, 4, 16 or 256, the most children that a node of the trie may have.
+KEY and VALUE are hexadecimal digits, or - for no bytes.
 
-example:
+commands:
+  root FACTOR      reads lines from standard input and prints the root of the map that they make
+                   lines: put KEY VALUE    del KEY    # a comment
+  apply FACTOR     does the lines of standard input on the store in FOLDER, a new one where there is
+                   none, and prints a line for each commit: commit NUMBER ROOT
+                   lines: those of root, and commit; what is left at the end is committed too
+  get FACTOR KEY   prints the value of KEY in the store: value VALUE, or none
+
+examples:
   echo 'put 6b 76' | mdb - root 16
+  echo 'put 6b 76' | mdb FOLDER apply 16
 
 The status is 0 where the work is finished. Otherwise a line on standard error tells why it is not.
 ";

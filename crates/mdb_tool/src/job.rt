@@ -1,20 +1,25 @@
 // The words of the command line.
 ghost use Rattle.std.specs.Prelude.{◌≡◌, ℕ, List, Result, Some, Err, IfOk, IfErr, map, option_map, string_bytes};
-ghost use Rattle.run_model.specs.Command.{Command as ModelCommand, job_of, job_words, job_with, root_words, factor_word};
+ghost use Rattle.run_model.specs.Command.{Command as ModelCommand, Job as ModelJob, job_of, job_words, job_with, no_words, get_words, in_folder as in_folder_of, factor_word};
 ghost use Rattle.bit_keys.specs.Branch.{width_of};
 ghost use Rattle.mdb_tool.specs.ReadJob.{AreRead, seen_command, seen_job};
 
+use batch_text::{KeyWord, read_key_word};
 use bit_keys::Branch;
 
 /// A command, with what its own words say.
-#[derive(Clone, Copy, Debug, PartialEq, Eq)]
+#[derive(Debug, Drop)]
 pub(crate) enum Command {
     /// The root of the map that the input makes.
     Root,
+    /// A script on a store.
+    Apply,
+    /// The value of a key in a store.
+    Get(KeyWord),
 }
 
 /// What the words ask for.
-#[derive(Clone, Copy, Debug, PartialEq, Eq)]
+#[derive(Debug, Drop)]
 pub(crate) struct Job {
     /// The most children that a node of the trie may have.
     pub(crate) branch: Branch,
@@ -50,33 +55,70 @@ fn read_branch(words: &[String]) -> Result<(Branch, &[String]), usize>
     }
 }
 
-// The words of `root` after its factor: there are none.
-fn read_root(words: &[String]) -> Result<Command, usize>
-    ensures { AreRead seen_command result (root_words (map string_bytes words.now)) }
+// The words of a command that has none of its own.
+fn read_none(command: Command, words: &[String]) -> Result<Command, usize>
+    ensures { AreRead seen_command result (no_words (seen_command command) (map string_bytes words.now)) }
 {
     if words.is_empty() {
-        Ok(Command::Root)
+        Ok(command)
     } else {
         Err(4)
     }
+}
+
+// The words of `get`: a key.
+fn read_get(words: &[String]) -> Result<Command, usize>
+    ensures { AreRead seen_command result (get_words (map string_bytes words.now)) }
+{
+    let Some((word, others)) = words.split_first() else {
+        return Err(4);
+    };
+    match read_key_word(word.as_bytes()) {
+        Some(key) if others.is_empty() => Ok(Command::Get(key)),
+        Some(_) => Err(5),
+        None => Err(4),
+    }
+}
+
+// The job of a command without words of its own, by the words behind the command.
+fn read_plain_job(command: Command, words: &[String]) -> Result<Job, usize>
+    ensures { AreRead seen_job result (job_words (no_words (seen_command command)) (map string_bytes words.now)) }
+{
+    let (branch, own) = read_branch(words)?;
+    let command = read_none(command, own)?;
+    Ok(Job { branch, command })
+}
+
+// The job of `get`, by the words behind the command.
+fn read_get_job(words: &[String]) -> Result<Job, usize>
+    ensures { AreRead seen_job result (job_words get_words (map string_bytes words.now)) }
+{
+    let (branch, own) = read_branch(words)?;
+    let command = read_get(own)?;
+    Ok(Job { branch, command })
+}
+
+// A job that uses a store, which has a folder.
+fn in_folder(folder: &str, job: Result<Job, usize>) -> Result<Job, usize>
+    ensures { (meant : Result ModelJob ℕ) → AreRead seen_job job meant → AreRead seen_job result (in_folder_of folder.now meant) }
+{
+    if folder == "-" { Err(1) } else { job }
 }
 
 /// Reads the words: an error is the place of the first word outside the grammar, counted from 1.
 pub(crate) fn read_words(words: &[String]) -> Result<Job, usize>
     ensures { AreRead seen_job result (job_of (map string_bytes words.now)) }
 {
-    let Some((_folder, words)) = words.split_first() else {
+    let Some((folder, words)) = words.split_first() else {
         return Err(1);
     };
     let Some((command, words)) = words.split_first() else {
         return Err(2);
     };
     match command.as_str() {
-        "root" => {
-            let (branch, own) = read_branch(words)?;
-            let command = read_root(own)?;
-            Ok(Job { branch, command })
-        }
+        "root" => read_plain_job(Command::Root, words),
+        "apply" => in_folder(folder.as_str(), read_plain_job(Command::Apply, words)),
+        "get" => in_folder(folder.as_str(), read_get_job(words)),
         _ => Err(2),
     }
 }

@@ -1,16 +1,18 @@
 //! The program `mdb`: the words of the command line, the input and the output, and one top call, `run`.
 //!
-//! `main` hands them to `carry_out`, which does what stands around `run`. The crate stands on `batch_text`
-//! and `map_root` and all below them, and on `hex` for the digits that it prints. Its errors are the
-//! statuses of `Status`, each with its cause in the contract of `run`, whose words are those of
-//! `run_model`. What the real streams give and take, no clause can say.
+//! `main` hands them to `carry_out`, which does what stands around `run`. The crate stands on `script_run`,
+//! `map_root` and all below them, and on `hex` for the digits that it prints. Its errors are the statuses of
+//! `Status`, each with its cause in the contract of `run`, whose words are those of `run_model`. What the
+//! real streams and files give and take, no clause can say.
 #![tactic(auto)]
 
+mod apply_command;
 mod command_line;
-mod digests;
+mod get_command;
 mod help;
 mod job;
 mod map_lines;
+mod opening;
 mod process;
 pub mod program;
 mod root_command;

@@ -2,14 +2,18 @@
 ghost use Rattle.std.specs.Prelude.{◌≡◌, ◌≤◌, ℕ, Ok, Err, IfOk, OnOk, true, false};
 ghost use Rattle.base_model.specs.Faults.{Rose, TellsAlike};
 ghost use Rattle.base_model.specs.Streams.{AtEnd};
+ghost use Rattle.trie_model.specs.Maps.{Map, map_digests};
+ghost use Rattle.text_model.specs.MapOfLines.{after_line};
+ghost use Rattle.batch_text.specs.SeenLine.{seen_line};
 ghost use Rattle.text_model.specs.ReadLine.{Batch, is_line};
 ghost use Rattle.mdb_tool.specs.MapLines.{Lays, Makes, FirstBad, IsPastLimit, GoodSoFar, status_of_fault};
 
-use crate::digests::Digests;
 use crate::status::Status;
-use batch_text::{InputKind, LineFault, LineKind, LineReader, ReaderFault, read_line};
+use batch_text::{InputKind, Line, LineFault, LineKind, LineReader, ReaderFault, read_line};
 use mdb_base::{LimitKind, NoMemory, Source};
+use mdb_core::Digests;
 use std::alloc::Global;
+use trie_items::value_digest;
 
 /// The most bytes of an input that are read.
 const INPUT_LIMIT: usize = 1_073_741_824;
@@ -41,6 +45,20 @@ impl MapFault {
     }
 }
 
+// Does what a line of puts asks for.
+fn lay_line(digests: &mut Digests, line: Line) -> Result<(), NoMemory>
+    ensures { (m : Map) → digests.old ≡ map_digests m → OnOk result (digests.new ≡ map_digests (after_line m (seen_line line))) }
+{
+    match line {
+        Line::Skip | Line::Commit => Ok(()),
+        Line::Put { key, value } => digests.put(key, value_digest(&value)),
+        Line::Del { key } => {
+            digests.remove(&key);
+            Ok(())
+        }
+    }
+}
+
 // Lays a line on the digests, and says whether it is in the grammar.
 fn apply_line(
     alloc: Global,
@@ -53,7 +71,7 @@ fn apply_line(
 {
     match read_line(alloc, line, number, InputKind::Batch) {
         Ok(line) => {
-            digests.apply(line)?;
+            lay_line(digests, line)?;
             Ok(true)
         }
         Err(

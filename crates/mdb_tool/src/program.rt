@@ -2,11 +2,13 @@
 ghost use Rattle.std.specs.Prelude.{map, string_bytes};
 ghost use Rattle.run_model.specs.Outside.{outside, disk_seen};
 ghost use Rattle.run_model.specs.Outcome.{IsComplete};
-ghost use Rattle.run_model.specs.Runs.{outcome, command_outcome, command_runs, TellsWords, WordsTouchNothing, ReadHasCause, WriteHasCause, InputLimitHasCause, SharedRuns, RootPart};
+ghost use Rattle.run_model.specs.Runs.{outcome, Needs, command_runs, TellsWords, WordsTouchNothing, ReadHasCause, WriteHasCause, DiskHasCause, StoreHasCause, InputLimitHasCause, SharedRuns, RootPart, ApplyPart, GetPart};
 ghost use Rattle.bit_keys.specs.Branch.{width_of};
 ghost use Rattle.mdb_tool.specs.Ends.{end_of};
 ghost use Rattle.mdb_tool.specs.ReadJob.{seen_command};
 
+use crate::apply_command::run_apply;
+use crate::get_command::run_get;
 use crate::job::{Command, Job, read_words};
 use crate::root_command::run_root;
 use crate::status::Status;
@@ -34,17 +36,26 @@ pub fn run<S: Source, K: Sink, D: Disk>(
     // The cause of each status that is one for all commands.
     ensures read { ReadHasCause (S.faults input.old) (S.faults input.new) (end_of result) }
     ensures write { WriteHasCause (K.faults out.old) (K.faults out.new) (end_of result) }
+    ensures disk { DiskHasCause (D.words.faults disk.old) (D.words.faults disk.new) (end_of result) }
+    ensures store { StoreHasCause (map string_bytes words.now) (disk_seen D.words disk.old) (end_of result) }
     ensures limit { InputLimitHasCause (S.left input.old) (end_of result) }
 
     // Where nothing outside fails, the run comes to its outcome, or memory ran out.
     ensures complete { let before = outside (S.left input.old) (S.faults input.old) (K.taken out.old) (K.faults out.old) (disk_seen D.words disk.old) in
         let after = outside (S.left input.new) (S.faults input.new) (K.taken out.new) (K.faults out.new) (disk_seen D.words disk.new) in
-        IsComplete (outcome (map string_bytes words.now)) before after (end_of result) }
+        let given = map string_bytes words.now in
+        IsComplete (Needs given) (outcome given) before after (end_of result) }
 
     // What the runs of each command promise besides.
     ensures root { let before = outside (S.left input.old) (S.faults input.old) (K.taken out.old) (K.faults out.old) (disk_seen D.words disk.old) in
         let after = outside (S.left input.new) (S.faults input.new) (K.taken out.new) (K.faults out.new) (disk_seen D.words disk.new) in
         RootPart (map string_bytes words.now) before after (end_of result) }
+    ensures apply { let before = outside (S.left input.old) (S.faults input.old) (K.taken out.old) (K.faults out.old) (disk_seen D.words disk.old) in
+        let after = outside (S.left input.new) (S.faults input.new) (K.taken out.new) (K.faults out.new) (disk_seen D.words disk.new) in
+        ApplyPart (map string_bytes words.now) before after (end_of result) }
+    ensures get { let before = outside (S.left input.old) (S.faults input.old) (K.taken out.old) (K.faults out.old) (disk_seen D.words disk.old) in
+        let after = outside (S.left input.new) (S.faults input.new) (K.taken out.new) (K.faults out.new) (disk_seen D.words disk.new) in
+        GetPart (map string_bytes words.now) before after (end_of result) }
 {
     match read_words(words) {
         Ok(job) => run_job(alloc, job, input, out, disk),
@@ -62,13 +73,15 @@ fn run_job<S: Source, K: Sink, D: Disk>(
 ) -> Status
     ensures shared { let before = outside (S.left input.old) (S.faults input.old) (K.taken out.old) (K.faults out.old) (disk_seen D.words disk.old) in
         let after = outside (S.left input.new) (S.faults input.new) (K.taken out.new) (K.faults out.new) (disk_seen D.words disk.new) in
-        SharedRuns (command_outcome (seen_command job.command) (width_of job.branch)) before after (end_of result) }
+        SharedRuns (seen_command job.command) (width_of job.branch) before after (end_of result) }
     ensures runs { let before = outside (S.left input.old) (S.faults input.old) (K.taken out.old) (K.faults out.old) (disk_seen D.words disk.old) in
         let after = outside (S.left input.new) (S.faults input.new) (K.taken out.new) (K.faults out.new) (disk_seen D.words disk.new) in
         command_runs (seen_command job.command) (width_of job.branch) before after (end_of result) }
 {
-    let _ = disk;
-    match job.command {
-        Command::Root => run_root(alloc, job.branch, input, out),
+    let Job { branch, command } = job;
+    match command {
+        Command::Root => run_root(alloc, branch, input, out),
+        Command::Apply => run_apply(alloc, branch, input, out, disk),
+        Command::Get(key) => run_get(alloc, branch, key.as_slice(), out, disk),
     }
 }

@@ -3,7 +3,8 @@ ghost use Rattle.std.specs.Prelude.{IfOk, string_bytes, ◌≡◌};
 ghost use Rattle.text_model.specs.Texts.{root_text};
 ghost use Rattle.bit_keys.specs.Branch.{width_of};
 ghost use Rattle.run_model.specs.Outside.{DiskSeen, outside};
-ghost use Rattle.run_model.specs.Root.{root_outcome, RootRuns};
+ghost use Rattle.run_model.specs.Command.{Root};
+ghost use Rattle.run_model.specs.Root.{RootRuns};
 ghost use Rattle.run_model.specs.Runs.{SharedRuns};
 ghost use Rattle.mdb_tool.specs.Ends.{end_of};
 
@@ -31,7 +32,7 @@ pub(crate) fn run_root<S: Source, K: Sink>(
 ) -> Status
     ensures shared { (disk : DiskSeen) → let before = outside (S.left input.old) (S.faults input.old) (K.taken out.old) (K.faults out.old) disk in
         let after = outside (S.left input.new) (S.faults input.new) (K.taken out.new) (K.faults out.new) disk in
-        SharedRuns (root_outcome (width_of branch)) before after (end_of result) }
+        SharedRuns Root (width_of branch) before after (end_of result) }
     ensures root { (disk : DiskSeen) → let before = outside (S.left input.old) (S.faults input.old) (K.taken out.old) (K.faults out.old) disk in
         let after = outside (S.left input.new) (S.faults input.new) (K.taken out.new) (K.faults out.new) disk in
         RootRuns (width_of branch) before after (end_of result) }
@@ -40,7 +41,7 @@ pub(crate) fn run_root<S: Source, K: Sink>(
         Ok(digests) => digests,
         Err(fault) => return fault.status(),
     };
-    let Ok(id) = digests.root(alloc, branch) else {
+    let Ok(id) = digests.into_root(alloc, branch) else {
         return Status::NoMemory;
     };
     let Ok(line) = line_of_root(alloc, &id) else {

@@ -1,8 +1,9 @@
 // How a run ends.
 ghost use Rattle.std.specs.Prelude.{◌≡◌, IfOk, string_bytes};
 ghost use Rattle.run_model.specs.End.{end_text, end_number};
-ghost use Rattle.text_model.specs.Texts.{limit_word};
-ghost use Rattle.mdb_tool.specs.Ends.{end_of, limit_of};
+ghost use Rattle.text_model.specs.Texts.{limit_word, no_store_text, branch_text, damaged_text};
+ghost use Rattle.script_run.specs.Ends.{limit_of};
+ghost use Rattle.mdb_tool.specs.Ends.{end_of};
 
 use mdb_base::{LimitKind, NoMemory};
 use std::alloc::Global;
@@ -10,19 +11,27 @@ use std::alloc::Global;
 /// How a run ends. The process ends with its number.
 #[derive(Clone, Copy, Debug, PartialEq, Eq)]
 pub enum Status {
-    /// The work is finished, and the input was read to its end.
+    /// The work is finished.
     Done,
     /// The word at this place, counted from 1, is the first outside the grammar. Where a word is
     /// missing it is one past the last.
     BadWords(usize),
     /// The line of this number, counted from 1, is the first outside the grammar.
     BadLine(u64),
+    /// The file of this number is no store's.
+    NotAStore(u8),
+    /// The store has another branch factor than the one that was asked for.
+    BranchDiffers { kept: u16, asked: u16 },
+    /// The file of this number is outside the format of stores, at this place.
+    Damaged { file: u8, at: u64 },
     /// A count reached its limit.
     Limit(LimitKind),
     /// The input could not be read.
     Read,
     /// The output could not be written.
     Write,
+    /// The disk failed.
+    Disk,
     /// There was no memory.
     NoMemory,
 }
@@ -39,6 +48,27 @@ fn limit_name(kind: LimitKind) -> &'static str
     }
 }
 
+// The line of a file that is no store's.
+fn no_store_line(alloc: Global, file: u8) -> Result<String, NoMemory>
+    ensures { IfOk result (λ text. string_bytes text ≡ no_store_text file) }
+{
+    Ok(format!(in alloc; "mdb: file {file} is no store")?)
+}
+
+// The line of a store of another factor.
+fn branch_line(alloc: Global, kept: u16, asked: u16) -> Result<String, NoMemory>
+    ensures { IfOk result (λ text. string_bytes text ≡ branch_text kept asked) }
+{
+    Ok(format!(in alloc; "mdb: the store has factor {kept}, asked was {asked}")?)
+}
+
+// The line of a file that is damaged.
+fn damaged_line(alloc: Global, file: u8, at: u64) -> Result<String, NoMemory>
+    ensures { IfOk result (λ text. string_bytes text ≡ damaged_text file at) }
+{
+    Ok(format!(in alloc; "mdb: file {file} is damaged at {at}")?)
+}
+
 /// The line that tells of a status, without its end.
 pub fn status_line(alloc: Global, status: &Status) -> Result<String, NoMemory>
     ensures { IfOk result (λ text. string_bytes text ≡ end_text (end_of status.now)) }
@@ -53,12 +83,16 @@ pub fn status_line(alloc: Global, status: &Status) -> Result<String, NoMemory>
             let number = *number;
             format!(in alloc; "mdb: line {number} is not understood")?
         }
+        Status::NotAStore(file) => no_store_line(alloc, *file)?,
+        Status::BranchDiffers { kept, asked } => branch_line(alloc, *kept, *asked)?,
+        Status::Damaged { file, at } => damaged_line(alloc, *file, *at)?,
         Status::Limit(kind) => {
             let name = limit_name(*kind);
             format!(in alloc; "mdb: limit {name}")?
         }
         Status::Read => String::from_str(alloc, "mdb: reading failed")?,
         Status::Write => String::from_str(alloc, "mdb: writing failed")?,
+        Status::Disk => String::from_str(alloc, "mdb: disk failed")?,
         Status::NoMemory => String::from_str(alloc, "mdb: no memory")?,
     };
     Ok(text)
@@ -72,9 +106,11 @@ pub fn status_number(status: &Status) -> u8
         Status::Done => 0,
         Status::BadWords(_) => 2,
         Status::BadLine(_) => 3,
+        Status::NotAStore(_) | Status::BranchDiffers { .. } | Status::Damaged { .. } => 4,
         Status::Limit(_) => 10,
         Status::Read => 20,
         Status::Write => 21,
+        Status::Disk => 22,
         Status::NoMemory => 30,
     }
 }

@@ -6,6 +6,8 @@ use std::alloc::Global;
 use std::process::Abort;
 use std::test::Fail;
 
+mod stores;
+
 pub(crate) fn words(alloc: Global, all: &[&str]) -> Result<Vec<String>, Fail> {
     let mut words = Vec::new(alloc);
     for word in all {
@@ -176,7 +178,7 @@ fn roots_are_the_hashes_of_their_strings(rt: HostRuntime) -> Result<(), Fail> {
 #[test]
 fn what_is_not_understood_is_told_by_its_place(rt: HostRuntime) -> Result<(), Fail> {
     let root: &[&str] = &["-", "root", "16"];
-    let rows: [(&[&str], &[u8], Status); 14] = [
+    let rows: [(&[&str], &[u8], Status); 24] = [
         // Words come first.
         (&[], b"x", Status::BadWords(1)),
         (&["-"], b"x", Status::BadWords(2)),
@@ -186,6 +188,17 @@ fn what_is_not_understood_is_told_by_its_place(rt: HostRuntime) -> Result<(), Fa
         (&["-", "root", "016"], b"x", Status::BadWords(3)),
         (&["-", "root", "8", "16"], b"x", Status::BadWords(3)),
         (&["-", "root", "16", "16"], b"x", Status::BadWords(4)),
+        // A store has a folder, `apply` no words of its own, and `get` just a key.
+        (&["-", "apply", "16"], b"x", Status::BadWords(1)),
+        (&["-", "get", "8"], b"x", Status::BadWords(1)),
+        (&["D", "apply"], b"x", Status::BadWords(3)),
+        (&["D", "apply", "8", "6b"], b"x", Status::BadWords(3)),
+        (&["D", "apply", "16", "6b"], b"x", Status::BadWords(4)),
+        (&["D", "get", "16"], b"x", Status::BadWords(4)),
+        (&["D", "get", "16", "6"], b"x", Status::BadWords(4)),
+        (&["D", "get", "16", "0x6b"], b"x", Status::BadWords(4)),
+        (&["D", "get", "16", "zz", "6b"], b"x", Status::BadWords(4)),
+        (&["D", "get", "16", "6b", "6b"], b"x", Status::BadWords(5)),
         // Then lines.
         (root, b"x", Status::BadLine(1)),
         (root, b"# a\n\nput 6b 76\nx\ny\n", Status::BadLine(4)),
@@ -214,6 +227,27 @@ fn a_key_past_its_limit_is_told_by_its_line(rt: HostRuntime) -> Result<(), Fail>
             text.extend_from_slice(b"6b")?;
         }
         assert_ends(&rt, alloc, &["-", "root", "16"], text.as_slice(), 100, want)?;
+    }
+    Ok(())
+}
+
+// A key of 257 bytes as a word, and one of 256, which a store is asked for.
+#[test]
+fn a_key_past_its_limit_is_told_by_its_word(rt: HostRuntime) -> Result<(), Fail> {
+    let alloc = rt.alloc();
+    for (bytes, want) in [(257usize, Status::BadWords(4)), (256, Status::Disk)] {
+        let mut key = String::new(alloc);
+        for _ in 0..bytes {
+            key.push_str("6b")?;
+        }
+        assert_ends(
+            &rt,
+            alloc,
+            &["D", "get", "16", key.as_str()],
+            b"",
+            1,
+            (want, ""),
+        )?;
     }
     Ok(())
 }
@@ -259,6 +293,32 @@ fn each_status_has_its_line_and_its_number(rt: HostRuntime) -> Result<(), Fail> 
         (Status::Read, "mdb: reading failed", 20),
         (Status::Write, "mdb: writing failed", 21),
         (Status::NoMemory, "mdb: no memory", 30),
+    ];
+    for (status, line, number) in rows {
+        assert_eq!(rt; status_line(rt.alloc(), &status)?.as_str(), line);
+        assert_eq!(rt; status_number(&status), number, "for {line}");
+    }
+    Ok(())
+}
+
+#[test]
+fn each_status_of_a_store_has_its_line_and_its_number(rt: HostRuntime) -> Result<(), Fail> {
+    let rows = [
+        (Status::NotAStore(1), "mdb: file 1 is no store", 4),
+        (
+            Status::BranchDiffers {
+                kept: 16,
+                asked: 256,
+            },
+            "mdb: the store has factor 16, asked was 256",
+            4,
+        ),
+        (
+            Status::Damaged { file: 0, at: 24 },
+            "mdb: file 0 is damaged at 24",
+            4,
+        ),
+        (Status::Disk, "mdb: disk failed", 22),
     ];
     for (status, line, number) in rows {
         assert_eq!(rt; status_line(rt.alloc(), &status)?.as_str(), line);

@@ -1,3 +1,2 @@
 pub mod RootDecided
-pub mod Decided
 pub mod WorkedRuns

@@ -98,7 +98,8 @@ unfolding decode_pairs lines_of
 empty_runs = (prints_zeros (lines_of []) refl, prints_zeros (lines_of (codes "\n")) refl, prints_zeros (lines_of (codes "put 6b 76\ndel 6b")) refl)
 
 pub wrong_word_runs : WrongWordRuns
-wrong_word_runs bytes = (refl, refl, refl, refl, refl, refl, refl, refl)
+unfolding decode_pairs
+wrong_word_runs found bytes = (refl, refl, refl, refl, refl, refl, refl, refl, refl, refl, refl, refl, refl, refl)
 
 pub wrong_line_runs : WrongLineRuns
 unfolding decode_pairs

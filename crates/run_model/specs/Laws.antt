@@ -4,11 +4,10 @@ use Rattle.text_model.specs.Lines.{AreWholeLines}
 use Rattle.run_model.specs.End.{Done}
 use Rattle.run_model.specs.Outcome.{Outcome}
 use Rattle.run_model.specs.Root.{root_outcome, root_decided}
-use Rattle.run_model.specs.Runs.{outcome, decided}
 
--- what is decided is the outcome, whatever bytes follow
+-- what is decided of `root` is the outcome, whatever bytes follow
 abbrev pub DecidedStays : Type 0
-DecidedStays = (given : List (List ℕ)) (front rest : List ℕ) (o : Outcome) → decided given front ≡ Some o → outcome given (front ++ rest) ≡ o
+DecidedStays = (w : ℕ) (front rest : List ℕ) (o : Outcome) → root_decided front ≡ Some o → root_outcome w (front ++ rest) ≡ o
 
 -- where whole lines decide nothing of `root`, an input that ends behind them is one of finished work
 abbrev pub UndecidedRootFinishes : Type 0

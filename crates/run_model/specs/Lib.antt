@@ -3,6 +3,10 @@ pub mod Command
 pub mod End
 pub mod Outcome
 pub mod Root
+pub mod Script
+pub mod Store
+pub mod Apply
+pub mod Get
 pub mod Runs
 pub mod Laws
 pub mod Worked

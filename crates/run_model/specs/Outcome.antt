@@ -1,8 +1,10 @@
 -- What a run comes to where nothing outside fails and memory lasts: how it ends, and the text that is printed by then.
-use Rattle.std.specs.Prelude.{◌≡◌, ◌⊎◌, ℕ, List, [], ◌++◌, Option, None, IfSome}
+use Rattle.std.specs.Prelude.{◌≡◌, ◌⊎◌, ℕ, List, [], ◌++◌, Option, None, IfSome, Result}
 use Rattle.std.specs.Io.KnownBytes.{Appends}
 use Rattle.base_model.specs.Faults.{Rose}
 use Rattle.base_model.specs.Streams.{AppendsPrefix}
+use Rattle.trie_model.specs.Maps.{Map}
+use Rattle.store_model.specs.Refusals.{Refusal}
 use Rattle.run_model.specs.Outside.{Outside}
 use Rattle.run_model.specs.End.{End, NoMemory}
 
@@ -39,8 +41,9 @@ IsUndecided decided_on before after =
 abbrev pub CameTo : Outcome → Outside → Outside → End → Type 0
 CameTo outcome before after end = (end ≡ NoMemory) ⊎ ((end ≡ outcome.end) × Appends before.output.taken after.output.taken outcome.text)
 
--- where the input tells its bytes and no count of faults rises, the run came to the outcome on them
-abbrev pub IsComplete : (List ℕ → Outcome) → Outside → Outside → End → Type 0
-IsComplete outcome_on before after end =
+-- Where the input tells its bytes and its count of faults and the output's don't rise, the run came to the outcome on these
+-- bytes, for each map, or refusal, of the store that the command needs.
+abbrev pub IsComplete : (Outside → Outside → Result Map Refusal → Type 0) → (Result Map Refusal → List ℕ → Outcome) → Outside → Outside → End → Type 0
+IsComplete needs outcome_on before after end =
     (Rose before.input.faults after.input.faults → ⊥) → (Rose before.output.faults after.output.faults → ⊥)
-    → IfSome before.input.left (λ bytes. CameTo (outcome_on bytes) before after end)
+    → IfSome before.input.left (λ bytes. (found : Result Map Refusal) → needs before after found → CameTo (outcome_on found bytes) before after end)

@@ -1,15 +1,18 @@
 -- Worked runs: words and an input, and what they come to, with SHA-256 left as a symbol.
 -- Bytes are in hexadecimal: 0a ends a line, 0d may stand before it, 09 is a tab.
-use Rattle.std.specs.Prelude.{◌≡◌, ℕ, List, [], ◌∷◌, ◌++◌, codes, replicate}
+use Rattle.std.specs.Prelude.{◌≡◌, ℕ, List, [], ◌∷◌, ◌++◌, codes, replicate, Result, Ok}
+use Rattle.std.specs.FinMap as map_of
 use Rattle.sha2.specs.Sha256.{sha256}
 use Rattle.hex.specs.Hex.{encode_lower}
+use Rattle.trie_model.specs.Maps.{Map}
+use Rattle.store_model.specs.Refusals.{Refusal}
 use Rattle.run_model.specs.End.{Done, BadWords, BadLine}
 use Rattle.run_model.specs.Outcome.{Outcome, silent}
 use Rattle.run_model.specs.Runs.{outcome}
 
 -- `mdb - root 16` on an input
 abbrev pub root_16 : List ℕ → Outcome
-root_16 bytes = outcome (codes "-" ∷ codes "root" ∷ codes "16" ∷ []) bytes
+root_16 bytes = outcome (codes "-" ∷ codes "root" ∷ codes "16" ∷ []) (Ok map_of.empty) bytes
 
 -- the work is finished, and this is printed
 abbrev pub prints : List ℕ → Outcome
@@ -48,21 +51,28 @@ EmptyRuns =
     × PrintsZeros (root_16 (codes "\n"))
     × PrintsZeros (root_16 (codes "put 6b 76\ndel 6b"))
 
--- words outside the grammar, whatever the input is
+-- words outside the grammar, whatever the input and the files are
 abbrev pub WrongWordRuns : Type 0
 WrongWordRuns =
-    (bytes : List ℕ)
+    (found : Result Map Refusal) (bytes : List ℕ)
     -- words that are missing
-    → (outcome [] bytes ≡ silent (BadWords 1))
-    × (outcome (codes "-" ∷ []) bytes ≡ silent (BadWords 2))
-    × (outcome (codes "-" ∷ codes "root" ∷ []) bytes ≡ silent (BadWords 3))
+    → (outcome [] found bytes ≡ silent (BadWords 1))
+    × (outcome (codes "-" ∷ []) found bytes ≡ silent (BadWords 2))
+    × (outcome (codes "-" ∷ codes "root" ∷ []) found bytes ≡ silent (BadWords 3))
     -- no command, no factor
-    × (outcome (codes "-" ∷ codes "Root" ∷ codes "16" ∷ []) bytes ≡ silent (BadWords 2))
-    × (outcome (codes "-" ∷ codes "root" ∷ codes "8" ∷ []) bytes ≡ silent (BadWords 3))
-    × (outcome (codes "-" ∷ codes "root" ∷ codes "016" ∷ []) bytes ≡ silent (BadWords 3))
+    × (outcome (codes "-" ∷ codes "Root" ∷ codes "16" ∷ []) found bytes ≡ silent (BadWords 2))
+    × (outcome (codes "-" ∷ codes "root" ∷ codes "8" ∷ []) found bytes ≡ silent (BadWords 3))
+    × (outcome (codes "-" ∷ codes "root" ∷ codes "016" ∷ []) found bytes ≡ silent (BadWords 3))
     -- a word too many, and the same after a wrong one
-    × (outcome (codes "-" ∷ codes "root" ∷ codes "16" ∷ codes "16" ∷ []) bytes ≡ silent (BadWords 4))
-    × (outcome (codes "-" ∷ codes "root" ∷ codes "8" ∷ codes "16" ∷ []) bytes ≡ silent (BadWords 3))
+    × (outcome (codes "-" ∷ codes "root" ∷ codes "16" ∷ codes "16" ∷ []) found bytes ≡ silent (BadWords 4))
+    × (outcome (codes "-" ∷ codes "root" ∷ codes "8" ∷ codes "16" ∷ []) found bytes ≡ silent (BadWords 3))
+    -- a store has no folder `-`, `apply` no words of its own, and `get` just one, a key
+    × (outcome (codes "-" ∷ codes "apply" ∷ codes "16" ∷ []) found bytes ≡ silent (BadWords 1))
+    × (outcome (codes "D" ∷ codes "apply" ∷ codes "16" ∷ codes "6b" ∷ []) found bytes ≡ silent (BadWords 4))
+    × (outcome (codes "D" ∷ codes "get" ∷ codes "16" ∷ []) found bytes ≡ silent (BadWords 4))
+    × (outcome (codes "D" ∷ codes "get" ∷ codes "16" ∷ codes "6" ∷ []) found bytes ≡ silent (BadWords 4))
+    × (outcome (codes "D" ∷ codes "get" ∷ codes "16" ∷ codes "6b" ∷ codes "6b" ∷ []) found bytes ≡ silent (BadWords 5))
+    × (outcome (codes "D" ∷ codes "get" ∷ codes "16" ∷ codes "6" ∷ codes "6b" ∷ []) found bytes ≡ silent (BadWords 4))
 
 -- inputs with a line outside the grammar
 abbrev pub WrongLineRuns : Type 0

@@ -9,7 +9,7 @@
 ghost use Rattle.run_model.specs.Laws.{DecidedStays, UndecidedRootFinishes};
 ghost use Rattle.run_model.specs.Worked.{OnePairRuns, EmptyRuns, WrongWordRuns, WrongLineRuns, KeyLimitRuns};
 
-/// What the words and the first bytes of an input decide, the whole input does not change.
+/// What the first bytes of an input decide of `root`, the whole input does not change.
 pub fn decided_stays()
     ensures { DecidedStays }
 {}

@@ -106,7 +106,7 @@ impl Index {
 
     /// The least key at or above that one, or above it where `past`.
     ///
-    /// The search takes memory for a copy of the key. Where there is none, all keys are gone through.
+    /// The search takes memory for a copy of that key; where there is none, it goes through all keys.
     pub(crate) fn next(&self, from: &[u8], past: bool) -> Option<&[u8]>
         ensures { option_map (λ key. key.now) result ≡ next_of (map_of.keys self.now) from.now past }
     {

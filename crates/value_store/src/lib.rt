@@ -22,3 +22,6 @@ mod writing;
 pub use fault::ValueFault;
 pub(crate) use place::Place;
 pub use store::ValueStore;
+
+#[cfg(test)]
+mod tests;

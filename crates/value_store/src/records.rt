@@ -65,6 +65,7 @@ fn read_record<D: Disk>(
         file: journal.active(),
         at,
     };
+    // No record of a disk that tells what it holds goes on behind the gate that ends them.
     if record.next > journal.end() {
         return Err(damaged);
     }

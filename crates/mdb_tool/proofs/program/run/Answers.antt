@@ -1,15 +1,36 @@
-use Rattle.std.proofs.Common.{◌≡◌, sym, ◌∙◌, subst}
-use Rattle.run_model.specs.Command.{Root, Job}
+use Rattle.std.specs.Prelude.{map, string_bytes}
 use Rattle.run_model.specs.Outside.{outside, disk_seen}
-use Rattle.run_model.specs.Runs.{command_runs}
 use Rattle.mdb_tool.specs.Ends.{end_of}
 use Rattle.mdb_tool.specs.ReadJob.{seen_job}
+use Rattle.mdb_tool.proofs.RunParts.{words_complete, words_store, root_part, apply_part, get_part}
 use Rattle.mdb_tool.proofs.program.run.Goals as goal
 
-pub returns-in-Ok-clause-root : goal.returns-in-Ok-clause-root
-returns-in-Ok-clause-root g c = λ w is.
-    let asked : Job = record { width = w; command = Root } in
-    let same : seen_job c.in-Ok.job ≡ asked = cc (sym c.in-Ok.ensures ∙ is) in
+pub returns-in-Ok-clause-store : goal.returns-in-Ok-clause-store
+returns-in-Ok-clause-store g c =
     let before = outside (g.S.Source.left c.args.input.now) (g.S.Source.faults c.args.input.now) (g.K.Sink.taken c.args.out.now) (g.K.Sink.faults c.args.out.now) (disk_seen g.D.Disk.words c.args.disk.now) in
     let after = outside (g.S.Source.left c.run_job.new.input) (g.S.Source.faults c.run_job.new.input) (g.K.Sink.taken c.run_job.new.out) (g.K.Sink.faults c.run_job.new.out) (disk_seen g.D.Disk.words c.run_job.new.disk) in
-    subst (λ (job : Job). command_runs job.command job.width before after (end_of c.run_job.result)) same c.run_job.ensures.runs
+    words_store (map string_bytes c.args.words.now) (seen_job c.in-Ok.job) before after (end_of c.run_job.result) c.in-Ok.ensures c.run_job.ensures.shared
+
+pub returns-in-Ok-clause-complete : goal.returns-in-Ok-clause-complete
+returns-in-Ok-clause-complete g c =
+    let before = outside (g.S.Source.left c.args.input.now) (g.S.Source.faults c.args.input.now) (g.K.Sink.taken c.args.out.now) (g.K.Sink.faults c.args.out.now) (disk_seen g.D.Disk.words c.args.disk.now) in
+    let after = outside (g.S.Source.left c.run_job.new.input) (g.S.Source.faults c.run_job.new.input) (g.K.Sink.taken c.run_job.new.out) (g.K.Sink.faults c.run_job.new.out) (disk_seen g.D.Disk.words c.run_job.new.disk) in
+    words_complete (map string_bytes c.args.words.now) (seen_job c.in-Ok.job) before after (end_of c.run_job.result) c.in-Ok.ensures c.run_job.ensures.shared
+
+pub returns-in-Ok-clause-root : goal.returns-in-Ok-clause-root
+returns-in-Ok-clause-root g c =
+    let before = outside (g.S.Source.left c.args.input.now) (g.S.Source.faults c.args.input.now) (g.K.Sink.taken c.args.out.now) (g.K.Sink.faults c.args.out.now) (disk_seen g.D.Disk.words c.args.disk.now) in
+    let after = outside (g.S.Source.left c.run_job.new.input) (g.S.Source.faults c.run_job.new.input) (g.K.Sink.taken c.run_job.new.out) (g.K.Sink.faults c.run_job.new.out) (disk_seen g.D.Disk.words c.run_job.new.disk) in
+    root_part (map string_bytes c.args.words.now) (seen_job c.in-Ok.job) before after (end_of c.run_job.result) c.in-Ok.ensures c.run_job.ensures.runs
+
+pub returns-in-Ok-clause-apply : goal.returns-in-Ok-clause-apply
+returns-in-Ok-clause-apply g c =
+    let before = outside (g.S.Source.left c.args.input.now) (g.S.Source.faults c.args.input.now) (g.K.Sink.taken c.args.out.now) (g.K.Sink.faults c.args.out.now) (disk_seen g.D.Disk.words c.args.disk.now) in
+    let after = outside (g.S.Source.left c.run_job.new.input) (g.S.Source.faults c.run_job.new.input) (g.K.Sink.taken c.run_job.new.out) (g.K.Sink.faults c.run_job.new.out) (disk_seen g.D.Disk.words c.run_job.new.disk) in
+    apply_part (map string_bytes c.args.words.now) (seen_job c.in-Ok.job) before after (end_of c.run_job.result) c.in-Ok.ensures c.run_job.ensures.runs
+
+pub returns-in-Ok-clause-get : goal.returns-in-Ok-clause-get
+returns-in-Ok-clause-get g c =
+    let before = outside (g.S.Source.left c.args.input.now) (g.S.Source.faults c.args.input.now) (g.K.Sink.taken c.args.out.now) (g.K.Sink.faults c.args.out.now) (disk_seen g.D.Disk.words c.args.disk.now) in
+    let after = outside (g.S.Source.left c.run_job.new.input) (g.S.Source.faults c.run_job.new.input) (g.K.Sink.taken c.run_job.new.out) (g.K.Sink.faults c.run_job.new.out) (disk_seen g.D.Disk.words c.run_job.new.disk) in
+    get_part (map string_bytes c.args.words.now) (seen_job c.in-Ok.job) before after (end_of c.run_job.result) c.in-Ok.ensures c.run_job.ensures.runs

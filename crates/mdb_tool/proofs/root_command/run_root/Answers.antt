@@ -2,7 +2,8 @@ use Rattle.std.proofs.Common.{Err, ap, refl, ◌∙◌}
 use Rattle.bit_keys.specs.Branch.{width_of}
 use Rattle.run_model.specs.Outside.{outside}
 use Rattle.mdb_tool.specs.declared.map_lines.MapFault.{MapFault}
-use Rattle.mdb_tool.proofs.RootEnds.{Found, stopped, found, printed_all, printed_part, took_nothing}
+use Rattle.mdb_tool.proofs.Telling.{took_nothing}
+use Rattle.mdb_tool.proofs.RootEnds.{Found, stopped, found, printed_all, printed_part}
 use Rattle.mdb_tool.proofs.root_command.run_root.Goals as goal
 
 pub returns-in-Err-clause-shared : goal.returns-in-Err-clause-shared
@@ -35,7 +36,7 @@ returns-in-Ok-write_all-clause-shared g c = λ disk.
     let before = outside (g.S.Source.left c.args.input.now) (g.S.Source.faults c.args.input.now) (g.K.Sink.taken c.args.out.now) (g.K.Sink.faults c.args.out.now) disk in
     let after = outside (g.S.Source.left c.read_map.new.input) (g.S.Source.faults c.read_map.new.input) (g.K.Sink.taken c.write_all.new.out) (g.K.Sink.faults c.write_all.new.out) disk in
     let text = c.as_bytes.result.now in
-    let made : Found w before text = found w before c.in-Ok.digests c.in-Ok-root.id text c.in-Ok.ensures.made c.in-Ok-root.ensures (c.as_bytes.ensures.value ∙ c.in-Ok-line_of_root.ensures) in
+    let made : Found w before text = found w before c.in-Ok.digests c.in-Ok-into_root.id text c.in-Ok.ensures.made c.in-Ok-into_root.ensures (c.as_bytes.ensures.value ∙ c.in-Ok-line_of_root.ensures) in
     let promises = printed_all w before after text made c.in-Ok.ensures.end c.in-Ok-write_all.ensures.ok refl in
     promises.shared
 
@@ -45,7 +46,7 @@ returns-in-Ok-write_all-clause-root g c = λ disk.
     let before = outside (g.S.Source.left c.args.input.now) (g.S.Source.faults c.args.input.now) (g.K.Sink.taken c.args.out.now) (g.K.Sink.faults c.args.out.now) disk in
     let after = outside (g.S.Source.left c.read_map.new.input) (g.S.Source.faults c.read_map.new.input) (g.K.Sink.taken c.write_all.new.out) (g.K.Sink.faults c.write_all.new.out) disk in
     let text = c.as_bytes.result.now in
-    let made : Found w before text = found w before c.in-Ok.digests c.in-Ok-root.id text c.in-Ok.ensures.made c.in-Ok-root.ensures (c.as_bytes.ensures.value ∙ c.in-Ok-line_of_root.ensures) in
+    let made : Found w before text = found w before c.in-Ok.digests c.in-Ok-into_root.id text c.in-Ok.ensures.made c.in-Ok-into_root.ensures (c.as_bytes.ensures.value ∙ c.in-Ok-line_of_root.ensures) in
     let promises = printed_all w before after text made c.in-Ok.ensures.end c.in-Ok-write_all.ensures.ok refl in
     promises.root
 
@@ -55,7 +56,7 @@ returns-clause-shared g c = λ disk.
     let before = outside (g.S.Source.left c.args.input.now) (g.S.Source.faults c.args.input.now) (g.K.Sink.taken c.args.out.now) (g.K.Sink.faults c.args.out.now) disk in
     let after = outside (g.S.Source.left c.read_map.new.input) (g.S.Source.faults c.read_map.new.input) (g.K.Sink.taken c.write_all.new.out) (g.K.Sink.faults c.write_all.new.out) disk in
     let text = c.as_bytes.result.now in
-    let made : Found w before text = found w before c.in-Ok.digests c.in-Ok-root.id text c.in-Ok.ensures.made c.in-Ok-root.ensures (c.as_bytes.ensures.value ∙ c.in-Ok-line_of_root.ensures) in
+    let made : Found w before text = found w before c.in-Ok.digests c.in-Ok-into_root.id text c.in-Ok.ensures.made c.in-Ok-into_root.ensures (c.as_bytes.ensures.value ∙ c.in-Ok-line_of_root.ensures) in
     let promises = printed_part w before after text made c.in-Err-write_all.ensures.err c.write_all.ensures.prefix refl in
     promises.shared
 
@@ -65,6 +66,6 @@ returns-clause-root g c = λ disk.
     let before = outside (g.S.Source.left c.args.input.now) (g.S.Source.faults c.args.input.now) (g.K.Sink.taken c.args.out.now) (g.K.Sink.faults c.args.out.now) disk in
     let after = outside (g.S.Source.left c.read_map.new.input) (g.S.Source.faults c.read_map.new.input) (g.K.Sink.taken c.write_all.new.out) (g.K.Sink.faults c.write_all.new.out) disk in
     let text = c.as_bytes.result.now in
-    let made : Found w before text = found w before c.in-Ok.digests c.in-Ok-root.id text c.in-Ok.ensures.made c.in-Ok-root.ensures (c.as_bytes.ensures.value ∙ c.in-Ok-line_of_root.ensures) in
+    let made : Found w before text = found w before c.in-Ok.digests c.in-Ok-into_root.id text c.in-Ok.ensures.made c.in-Ok-into_root.ensures (c.as_bytes.ensures.value ∙ c.in-Ok-line_of_root.ensures) in
     let promises = printed_part w before after text made c.in-Err-write_all.ensures.err c.write_all.ensures.prefix refl in
     promises.root

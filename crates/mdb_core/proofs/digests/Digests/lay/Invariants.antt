@@ -1,0 +1,7 @@
+use Rattle.std.proofs.Common.{◌≡◌, drop}
+use Rattle.trie_model.specs.Maps.{Map, map_digests}
+use Rattle.batch_model.specs.Batch.{after_batch}
+use Rattle.mdb_core.proofs.digests.Digests.lay.Given as goal
+
+abbrev pub invariant-loop-change : goal.invariant-loop-change
+invariant-loop-change l = (m : Map) → l.fn.self ≡ map_digests m → (n : Map) × (l.self ≡ map_digests n) × (after_batch n (drop l.change-index l.change-items) ≡ after_batch m l.fn.batch)

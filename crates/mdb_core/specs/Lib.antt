@@ -1,0 +1,4 @@
+pub mod Stores
+pub mod Opens
+pub mod Applies
+pub mod Faults

@@ -1,0 +1,163 @@
+// The digests of a map, by its keys.
+ghost use Rattle.std.specs.Prelude.{◌≡◌, ◌+◌, [], length, IfOk, OnOk, OnErr};
+ghost use Rattle.std.specs.FinMap.Entries.{put};
+ghost use Rattle.std.specs.Map.{remove_entry};
+ghost use Rattle.std.specs.BTreeMap.{is_at};
+ghost use Rattle.base_model.specs.Bytes.{bytes_cmp};
+ghost use Rattle.trie_model.specs.Maps.{Map, map_digests, map_items, root as root_of_map};
+ghost use Rattle.trie_model.specs.Strings.{strings};
+ghost use Rattle.batch_model.specs.Batch.{put_or_removed, after_batch};
+ghost use Rattle.bit_keys.specs.Branch.{width_of};
+
+use bit_keys::{Branch, Id};
+use map_root::{Builder, root_of_builder};
+use mdb_base::{Batch, Change, NoMemory};
+use smallvec::SmallVec;
+use std::alloc::Global;
+use std::collections::BTreeMap;
+use std::marker::Model;
+use std::sync::ledger::Ledger;
+use trie_items::{Digest, Steps, value_digest};
+
+/// The bytes of a key. Up to 32 of them are kept in place.
+pub type KeyBytes = SmallVec<u8, 32>;
+
+/// What is kept of a map to know its root: the digest of each value, in the order of the keys.
+#[derive(Drop)]
+pub struct Digests {
+    entries: BTreeMap<KeyBytes, Digest>,
+}
+
+impl Model for Digests {
+    ghost use Rattle.std.specs.Prelude.{ℕ, List, map};
+
+    ghost Value = { List (List ℕ × List ℕ) };
+
+    ghost view = { λ d. map (λ e. (e.0.items, e.1)) d.entries.entries };
+}
+
+impl Digests {
+    /// No digest.
+    pub fn new(alloc: Global) -> Self
+        ensures { result ≡ [] }
+    {
+        Digests {
+            entries: BTreeMap::new(alloc),
+        }
+    }
+
+    /// Puts a digest at a key, in the place of the one that is there.
+    pub fn put(&mut self, key: KeyBytes, digest: Digest) -> Result<(), NoMemory>
+        ensures ok { OnOk result (self.new ≡ put bytes_cmp key.items digest self.old) }
+        ensures err { OnErr result (self.new ≡ self.old) }
+    {
+        self.entries.insert(key, digest)?;
+        Ok(())
+    }
+
+    /// Deletes a key, where it is there.
+    pub fn remove(&mut self, key: &KeyBytes)
+        ensures { self.new ≡ remove_entry (is_at (bytes_cmp key.now.items)) self.old }
+    {
+        self.entries.remove(key);
+    }
+
+    /// Puts a digest at a copy of the key, in the place of the one that is there.
+    pub(crate) fn put_copy(
+        &mut self,
+        alloc: Global,
+        key: &[u8],
+        digest: Digest,
+    ) -> Result<(), NoMemory>
+        ensures ok { OnOk result (self.new ≡ put bytes_cmp key.now digest self.old) }
+        ensures err { OnErr result (self.new ≡ self.old) }
+    {
+        match KeyBytes::from_slice(alloc, key) {
+            Ok(key) => self.put(key, digest),
+            Err(_) => Err(NoMemory),
+        }
+    }
+
+    // Deletes a key, where it is there. It takes memory for a longer key.
+    fn remove_bytes(&mut self, alloc: Global, key: &[u8]) -> Result<(), NoMemory>
+        ensures { OnOk result (self.new ≡ remove_entry (is_at (bytes_cmp key.now)) self.old) }
+    {
+        let key = KeyBytes::from_slice(alloc, key)?;
+        self.remove(&key);
+        Ok(())
+    }
+
+    // Lays one change on the map.
+    fn lay_change(&mut self, alloc: Global, change: &Change) -> Result<(), NoMemory>
+        ensures { (m : Map) → self.old ≡ map_digests m → OnOk result (self.new ≡ map_digests (put_or_removed m change.now.key change.now.value)) }
+    {
+        match &change.value {
+            Some(value) => self.put_copy(alloc, &change.key, value_digest(value)),
+            None => self.remove_bytes(alloc, &change.key),
+        }
+    }
+
+    /// Lays a batch on the map. Where memory runs out a part of it was laid.
+    pub fn lay(&mut self, alloc: Global, batch: &Batch) -> Result<(), NoMemory>
+        ensures { (m : Map) → self.old ≡ map_digests m → OnOk result (self.new ≡ map_digests (after_batch m batch.now)) }
+    {
+        for change in batch.changes() {
+            self.lay_change(alloc, change)?;
+        }
+        Ok(())
+    }
+
+    /// Equal digests.
+    pub fn copy(&self, alloc: Global) -> Result<Digests, NoMemory>
+        ensures { IfOk result (λ copy. copy ≡ self.now) }
+    {
+        let mut copy = Digests::new(alloc);
+        for (key, digest) in &self.entries {
+            copy.put_copy(alloc, key.as_slice(), digest.copy())?;
+        }
+        Ok(copy)
+    }
+
+    fn builder(&self, alloc: Global, branch: Branch) -> Result<Builder, NoMemory>
+        ensures branch { IfOk result (λ builder. builder.branch ≡ branch) }
+        ensures pairs { IfOk result (λ builder. builder.pairs ≡ self.now) }
+    {
+        let mut builder = Builder::new(alloc, branch);
+        for (key, digest) in &self.entries {
+            builder.add(key.as_slice(), digest.copy())?;
+        }
+        Ok(builder)
+    }
+
+    /// The root of the map.
+    pub fn root(&self, alloc: Global, branch: Branch) -> Result<Id, NoMemory>
+        ensures { IfOk result (λ id. (m : Map) → self.now ≡ map_digests m → id ≡ root_of_map (width_of branch) m) }
+    {
+        root_of_builder(alloc, self.builder(alloc, branch)?)
+    }
+
+    /// The root of the map. `steps` counts each node that is hashed, and each is hashed once.
+    pub fn counted_root<L: Ledger>(
+        &self,
+        alloc: Global,
+        branch: Branch,
+        steps: &mut Steps<L>,
+    ) -> Result<Id, NoMemory>
+        ensures root { IfOk result (λ id. (m : Map) → self.now ≡ map_digests m → id ≡ root_of_map (width_of branch) m) }
+        ensures cost { OnOk result ((m : Map) → self.now ≡ map_digests m → steps.new ≡ steps.old + length (strings (width_of branch) (map_items m))) }
+    {
+        self.builder(alloc, branch)?.finish_root(alloc, steps)
+    }
+
+    /// The root of the map, for one who needs the digests no longer: their memory is given back on the way.
+    pub fn into_root(self, alloc: Global, branch: Branch) -> Result<Id, NoMemory>
+        ensures { IfOk result (λ id. (m : Map) → self ≡ map_digests m → id ≡ root_of_map (width_of branch) m) }
+    {
+        let Digests { entries } = self;
+        let mut builder = Builder::new(alloc, branch);
+        for (key, digest) in entries {
+            builder.add(key.as_slice(), digest)?;
+        }
+        root_of_builder(alloc, builder)
+    }
+}

@@ -1,0 +1,155 @@
+// Opening a store.
+ghost use Rattle.std.specs.Prelude.{◌≡◌, ◌⊎◌, ◌≤◌, ℕ, List, false, true, Some, None, OnOk, IfOk, IfErr, IsErrOf};
+ghost use Rattle.std.specs.FinMap as map_of;
+ghost use Rattle.std.specs.FinMap.Entries.{put};
+ghost use Rattle.base_model.specs.Bytes.{bytes_cmp};
+ghost use Rattle.base_model.specs.Faults.{Rose};
+ghost use Rattle.disk_model.specs.Moments.{LeavesOnly};
+ghost use Rattle.disk_model.specs.Words.{TellsContents, TellsImages};
+ghost use Rattle.trie_model.specs.Hashing.{value_digest as digest_of};
+ghost use Rattle.trie_model.specs.Maps.{Map, limits, map_digests};
+ghost use Rattle.bit_keys.specs.Branch.{width_of};
+ghost use Rattle.store_model.specs.Journal.{Stands};
+ghost use Rattle.mdb_journal.specs.Moves.{AreSynced};
+ghost use Rattle.mdb_journal.specs.Opening.{Untouched};
+ghost use Rattle.value_store.specs.Values.{Keeps as ValuesKeep, keys_of, next_of};
+ghost use Rattle.store_model.specs.Openings.{Opens};
+ghost use Rattle.mdb_core.specs.Stores.{Keeps, is_failed};
+ghost use Rattle.mdb_core.specs.Opens.{Opened, OpenFails};
+
+use crate::fault::told;
+use crate::{Config, Db, DbFault, Digests};
+use bit_keys::Branch;
+use disk_world::Disk;
+use std::alloc::Global;
+use trie_items::value_digest;
+use value_store::ValueStore;
+
+impl Db {
+    /// Opens the store of a disk, and makes it where there is none.
+    pub fn open<D: Disk>(
+        alloc: Global,
+        disk: &mut D,
+        branch: Branch,
+        config: Config,
+    ) -> Result<Db, DbFault>
+        requires cache { (1 ≤ config.cache) × (config.cache ≤ 65536) }
+        requires weight { config.weight ≤ 268435456 }
+        ensures opened { TellsContents D.words.tells → IfOk result (Opened (width_of branch) (D.words.seen disk.old) (D.words.seen disk.new)) }
+        ensures works { IfOk result (λ d. (is_failed d ≡ false) × (d.given ≡ 0) × (d.width ≡ width_of branch)) }
+        ensures refused { TellsContents D.words.tells → IfErr result (OpenFails (width_of branch) (D.words.seen disk.old)) }
+        ensures kept { TellsContents D.words.tells → (m : Map) → Stands limits (D.words.seen disk.old) m → IsErrOf result DbFault.NoMemory → Stands limits (D.words.seen disk.new) m }
+        ensures read_others { TellsContents D.words.tells → (file : ℕ) → 2 ≤ file → D.words.seen disk.new file ≡ D.words.seen disk.old file }
+        ensures synced { TellsImages D.words.tells → OnOk result (AreSynced (D.words.seen disk.new) (D.words.moments disk.new)) }
+        ensures left { TellsImages D.words.tells → (m : Map) → Stands limits (D.words.seen disk.old) m → OnOk result (LeavesOnly (λ image. Stands limits image m) (D.words.moments disk.new).now) }
+        ensures others { TellsImages D.words.tells → (file : ℕ) → 2 ≤ file → (D.words.moments disk.new).now file ≡ (D.words.moments disk.old).now file }
+        ensures opens { TellsImages D.words.tells → (m : Map) → Stands limits (D.words.seen disk.old) m → Opens limits m (D.words.moments disk.old) (D.words.moments disk.new) }
+        ensures later { D.words.faults disk.old ≤ D.words.faults disk.new }
+        ensures disk { IsErrOf result DbFault.Disk → Rose (D.words.faults disk.old) (D.words.faults disk.new) }
+    {
+        let _ = config;
+        match ValueStore::open(alloc, disk, branch) {
+            Ok(values) => rooted(alloc, disk, branch, values),
+            Err(fault) => Err(told(fault)),
+        }
+    }
+}
+
+/// The store of these values, with the digests of all of them and the root.
+fn rooted<D: Disk>(
+    alloc: Global,
+    disk: &mut D,
+    branch: Branch,
+    mut values: ValueStore,
+) -> Result<Db, DbFault>
+    requires works { values.journal.failed ≡ false }
+    ensures keeps { TellsContents D.words.tells → (m : Map) → ValuesKeep values m (D.words.seen disk.old) → IfOk result (λ d. Keeps d m (D.words.seen disk.new)) }
+    ensures works { IfOk result (λ d. (is_failed d ≡ false) × (d.given ≡ 0) × (d.width ≡ width_of branch)) }
+    ensures fault { IfErr result (λ fault. (fault ≡ DbFault.Disk) ⊎ (fault ≡ DbFault.NoMemory)) }
+    ensures untouched { Untouched (D.words.seen disk.old) (D.words.seen disk.new) (D.words.moments disk.old) (D.words.moments disk.new) }
+    ensures later { D.words.faults disk.old ≤ D.words.faults disk.new }
+    ensures disk { IsErrOf result DbFault.Disk → Rose (D.words.faults disk.old) (D.words.faults disk.new) }
+{
+    let digests = match read_digests(alloc, disk, &mut values) {
+        Ok(digests) => digests,
+        Err(fault) => return Err(fault),
+    };
+    match digests.root(alloc, branch) {
+        Ok(root) => Ok(Db {
+            values,
+            digests,
+            root,
+            branch,
+            given: 0,
+        }),
+        Err(_) => Err(DbFault::NoMemory),
+    }
+}
+
+/// Reads each value, in the order of the keys, and keeps its digest.
+fn read_digests<D: Disk>(
+    alloc: Global,
+    disk: &mut D,
+    values: &mut ValueStore,
+) -> Result<Digests, DbFault>
+    requires works { values.old.journal.failed ≡ false }
+    ensures digests { TellsContents D.words.tells → (m : Map) → ValuesKeep values.old m (D.words.seen disk.old) → IfOk result (λ digests. digests ≡ map_digests m) }
+    ensures stays { OnOk result (values.new ≡ values.old) }
+    ensures fault { IfErr result (λ fault. (fault ≡ DbFault.Disk) ⊎ (fault ≡ DbFault.NoMemory)) }
+    ensures untouched { Untouched (D.words.seen disk.old) (D.words.seen disk.new) (D.words.moments disk.old) (D.words.moments disk.new) }
+    ensures later { D.words.faults disk.old ≤ D.words.faults disk.new }
+    ensures disk { IsErrOf result DbFault.Disk → Rose (D.words.faults disk.old) (D.words.faults disk.new) }
+{
+    let mut digests = Digests::new(alloc);
+    let mut key = Vec::new(alloc);
+    let mut past = false;
+    while next_key(values, &mut key, past)? {
+        note_digest(alloc, disk, values, &key, &mut digests)?;
+        past = true;
+    }
+    Ok(digests)
+}
+
+/// Goes to the least key at or above this one, or above it where `past`, and says whether there is one.
+fn next_key(values: &ValueStore, key: &mut Vec<u8>, past: bool) -> Result<bool, DbFault>
+    ensures found { IfOk result (λ found. found ≡ true → next_of (keys_of values.now) key.old.items past ≡ Some key.new.items) }
+    ensures none { IfOk result (λ found. found ≡ false → next_of (keys_of values.now) key.old.items past ≡ None) }
+    ensures fault { IfErr result (λ fault. fault ≡ DbFault.NoMemory) }
+{
+    let Some(next) = values.next(key, past) else {
+        return Ok(false);
+    };
+    key.clear();
+    match key.extend_from_slice(next) {
+        Ok(()) => Ok(true),
+        Err(_) => Err(DbFault::NoMemory),
+    }
+}
+
+/// Keeps the digest of the value that stands at a key.
+fn note_digest<D: Disk>(
+    alloc: Global,
+    disk: &mut D,
+    values: &mut ValueStore,
+    key: &[u8],
+    digests: &mut Digests,
+) -> Result<(), DbFault>
+    requires works { values.old.journal.failed ≡ false }
+    ensures noted { TellsContents D.words.tells → (m : Map) → ValuesKeep values.old m (D.words.seen disk.old)
+        → (v : List ℕ) → map_of.get m key.now ≡ Some v → OnOk result (digests.new ≡ put bytes_cmp key.now (digest_of v) digests.old) }
+    ensures stays { OnOk result (values.new ≡ values.old) }
+    ensures fault { IfErr result (λ fault. (fault ≡ DbFault.Disk) ⊎ (fault ≡ DbFault.NoMemory)) }
+    ensures untouched { Untouched (D.words.seen disk.old) (D.words.seen disk.new) (D.words.moments disk.old) (D.words.moments disk.new) }
+    ensures later { D.words.faults disk.old ≤ D.words.faults disk.new }
+    ensures disk { IsErrOf result DbFault.Disk → Rose (D.words.faults disk.old) (D.words.faults disk.new) }
+{
+    let value = match values.get(alloc, disk, key) {
+        Ok(Some(value)) => value,
+        Ok(None) => return Ok(()),
+        Err(fault) => return Err(told(fault)),
+    };
+    match digests.put_copy(alloc, key, value_digest(&value)) {
+        Ok(()) => Ok(()),
+        Err(_) => Err(DbFault::NoMemory),
+    }
+}

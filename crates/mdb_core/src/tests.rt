@@ -1,0 +1,348 @@
+ghost use Rattle.std.specs.Prelude.{◌≡◌, ◌<◌};
+
+use crate::{At, Config, Db, DbFault, Digests, KeyBytes, ViewId};
+use bit_keys::{Branch, Id};
+use disk_world::Disk;
+use mdb_base::{Batch, BatchFault};
+use mem_world::{FlatDisk, MemDisk, Pick};
+use sha2::{Digest, Sha256};
+use std::alloc::Global;
+use std::marker::Brand;
+use std::process::Abort;
+use std::sync::ledger::{Blank, Ledger};
+use std::test::Fail;
+use trie_items::{Steps, value_digest};
+
+/// A store of one commit, which puts 76 at 6b, with 16 children a node.
+const WORKED: [u8; 37] = [
+    0x01, 0x4d, 0x44, 0x42, 0x56, 0x41, 0x4c, 0x53, 0x01, 0x04, 0, 0, 0, 0, 0, 0, 0, 0, 0, 0, 0, 0,
+    0, 0x01, 0x01, 0x01, 0, 0, 0, 0x06, 0x01, 0x01, 0x6b, 0x01, 0x01, 0x76, 0x00,
+];
+
+/// The root of a map of no pair.
+const EMPTY: Id = [0; 32];
+
+/// The root of a map of one pair: the hash of its one node.
+fn root_of_one(key: u8, value: u8) -> Id {
+    Sha256::digest(&[0, 1, 1, value, 8, key])
+}
+
+/// The root of {6b: 76, 6c: 77} at 16 children a node: two children at the four bits that the keys share.
+fn root_of_both() -> Id {
+    let mut hasher = Sha256::new();
+    hasher.update(&[2, 0x0b]);
+    hasher.update(&root_of_one(0x6b, 0x76));
+    hasher.update(&[0x0c]);
+    hasher.update(&root_of_one(0x6c, 0x77));
+    hasher.update(&[0, 4, 0x60]);
+    hasher.finalize()
+}
+
+fn opened<D: Disk>(alloc: Global, disk: &mut D, branch: Branch) -> Result<Db, DbFault> {
+    let config = Config {
+        cache: 1024,
+        commits: 16,
+        weight: 1_048_576,
+    };
+    Db::open(alloc, disk, branch, config)
+}
+
+fn owned(alloc: Global, bytes: &[u8]) -> Result<Vec<u8>, BatchFault> {
+    Vec::from_slice(alloc, bytes).map_err(|_| BatchFault::NoMemory)
+}
+
+/// Keys with what they get; None deletes.
+fn batch_of(alloc: Global, changes: &[(&[u8], Option<&[u8]>)]) -> Result<Batch, BatchFault> {
+    let mut batch = Batch::new(alloc);
+    for (key, value) in changes {
+        let value = match value {
+            Some(bytes) => Some(owned(alloc, bytes)?),
+            None => None,
+        };
+        batch.set(owned(alloc, key)?, value)?;
+    }
+    Ok(batch)
+}
+
+fn counted<D: Disk, L: Ledger>(
+    alloc: Global,
+    disk: &mut D,
+    db: &mut Db,
+    batch: Batch,
+    blank: Blank,
+) -> Result<(ViewId, Id), DbFault>
+    requires name { blank.name ≡ L.name }
+    requires parts { blank.parts ≡ L.parts }
+    requires some { 0 < blank.parts }
+{
+    let mut steps = Steps::<L>::new(blank);
+    db.apply(alloc, disk, batch, &mut steps)
+}
+
+/// Applies a batch, for a test that counts no hashes.
+fn applied<D: Disk>(
+    alloc: Global,
+    disk: &mut D,
+    db: &mut Db,
+    batch: Batch,
+) -> Result<(ViewId, Id), DbFault> {
+    counted::<D, Brand>(alloc, disk, db, batch, Blank::new(1))
+}
+
+/// Whether the store has this value at the key.
+fn has<D: Disk>(
+    alloc: Global,
+    disk: &mut D,
+    db: &mut Db,
+    key: u8,
+    want: Option<u8>,
+) -> Result<bool, DbFault> {
+    match db.get(alloc, disk, At::Store, &[key]) {
+        Ok(Some(value)) => Ok(want.is_some_and(|byte| value.as_slice() == [byte].as_slice())),
+        Ok(None) => Ok(want.is_none()),
+        Err(fault) => Err(fault),
+    }
+}
+
+/// That a commit makes the worked file, and is there when the store is opened again.
+fn assert_worked<D: Disk>(rt: &impl Abort, alloc: Global, disk: &mut D) -> Result<(), Fail> {
+    let root = root_of_one(0x6b, 0x76);
+    let mut db = opened(alloc, disk, Branch::B16)?;
+    assert_eq!(rt; (db.root(), db.len(), db.generation()), (EMPTY, 0, 1));
+    let batch = batch_of(alloc, &[(b"k", Some(b"v"))])?;
+    assert_eq!(rt;
+        applied(alloc, disk, &mut db, batch),
+        Ok((ViewId { number: 1 }, root))
+    );
+    let mut bytes = [0u8; 37];
+    assert_eq!(rt; disk.len(0), Ok(37));
+    assert_eq!(rt; disk.read(0, 0, &mut bytes), Ok(()));
+    assert_eq!(rt; bytes, WORKED);
+    assert_eq!(rt; db.close(disk), Ok(()));
+    let mut again = opened(alloc, disk, Branch::B16)?;
+    assert_eq!(rt;
+        (again.root(), again.len(), again.generation()),
+        (root, 1, 1)
+    );
+    assert_eq!(rt; (again.branch(), again.damage()), (Branch::B16, None));
+    assert_eq!(rt; has(alloc, disk, &mut again, 0x6b, Some(0x76)), Ok(true));
+    assert_eq!(rt; has(alloc, disk, &mut again, 0x6c, None), Ok(true));
+    Ok(())
+}
+
+#[test]
+fn a_commit_makes_the_worked_file_and_its_root(rt: HostRuntime) -> Result<(), Fail> {
+    let alloc = rt.alloc();
+    assert_worked(&rt, alloc, &mut MemDisk::new(alloc))?;
+    assert_worked(&rt, alloc, &mut FlatDisk::new(alloc))
+}
+
+#[test]
+fn numbers_count_from_one_at_each_opening(rt: HostRuntime) -> Result<(), Fail> {
+    let alloc = rt.alloc();
+    let one = root_of_one(0x6b, 0x76);
+    // What is committed, the root after it, and how many pairs there are.
+    let rows: [(&[(&[u8], Option<&[u8]>)], Id, u64); 6] = [
+        (&[], EMPTY, 0),
+        (&[(b"k", Some(b"v"))], one, 1),
+        (&[], one, 1),
+        (&[(b"x", None)], one, 1),
+        (&[(b"l", Some(b"w"))], root_of_both(), 2),
+        (&[(b"l", None), (b"k", None)], EMPTY, 0),
+    ];
+    let mut disk = MemDisk::new(alloc);
+    for _ in 0..2 {
+        let mut db = opened(alloc, &mut disk, Branch::B16)?;
+        let mut number = 0u64;
+        for (changes, root, len) in rows {
+            number = number.saturating_add(1);
+            let batch = batch_of(alloc, changes)?;
+            assert_eq!(rt;
+                applied(alloc, &mut disk, &mut db, batch),
+                Ok((ViewId { number }, root))
+            );
+            assert_eq!(rt; (db.root(), db.len()), (root, len), "after {number}");
+        }
+    }
+    Ok(())
+}
+
+#[test]
+fn files_are_opened_or_refused_by_their_bytes(rt: HostRuntime) -> Result<(), Fail> {
+    let alloc = rt.alloc();
+    let damaged = |at| Err(DbFault::Damaged { file: 0, at });
+    let differs = DbFault::BranchDiffers { kept: 2, asked: 16 };
+    // A byte of the worked file, what it is changed to, and the root or why there is none.
+    let rows: [(usize, u8, Result<Id, DbFault>); 8] = [
+        (0, 0x01, Ok(root_of_one(0x6b, 0x76))),
+        (24, 0x00, Ok(EMPTY)),
+        (35, 0x77, Ok(root_of_one(0x6b, 0x77))),
+        (7, 0x54, Err(DbFault::NotAStore(0))),
+        (9, 0x01, Err(differs)),
+        (15, 0x01, damaged(15)),
+        (25, 0x03, damaged(24)),
+        (30, 0x02, damaged(24)),
+    ];
+    for (place, byte, want) in rows {
+        let mut bytes = WORKED;
+        if let Some(slot) = bytes.get_mut(place) {
+            *slot = byte;
+        }
+        let mut disk = MemDisk::new(alloc);
+        disk.write_at(0, 0, &bytes)?;
+        let found = match opened(alloc, &mut disk, Branch::B16) {
+            Ok(db) => Ok(db.root()),
+            Err(fault) => Err(fault),
+        };
+        assert_eq!(rt; found, want, "{byte} at {place}");
+    }
+    Ok(())
+}
+
+/// Which of three maps the disk stands for, by all that a store tells of it: the empty one, {6b: 76} or
+/// {6b: 76, 6c: 77}.
+fn found_map<D: Disk>(alloc: Global, disk: &mut D) -> Result<Option<u64>, DbFault> {
+    let mut db = opened(alloc, disk, Branch::B16)?;
+    let rows = [
+        (EMPTY, None, None),
+        (root_of_one(0x6b, 0x76), Some(0x76), None),
+        (root_of_both(), Some(0x76), Some(0x77)),
+    ];
+    let mut found = None;
+    let mut pairs = 0u64;
+    for (root, first, second) in rows {
+        let same = has(alloc, disk, &mut db, 0x6b, first)?
+            && has(alloc, disk, &mut db, 0x6c, second)?
+            && db.root() == root
+            && db.len() == pairs;
+        if same {
+            found = Some(pairs);
+        }
+        pairs = pairs.saturating_add(1);
+    }
+    Ok(found)
+}
+
+/// Makes the two commits, and tells how many were acknowledged. A store whose disk failed stays failed.
+fn two_commits(
+    rt: &impl Abort,
+    alloc: Global,
+    disk: &mut MemDisk,
+    mut db: Db,
+) -> Result<u64, Fail> {
+    let rows: [(&[(&[u8], Option<&[u8]>)], Id); 2] = [
+        (&[(b"k", Some(b"v"))], root_of_one(0x6b, 0x76)),
+        (&[(b"l", Some(b"w"))], root_of_both()),
+    ];
+    let mut done = 0u64;
+    let mut want = DbFault::Disk;
+    for (changes, root) in rows {
+        let batch = batch_of(alloc, changes)?;
+        match applied(alloc, disk, &mut db, batch) {
+            Ok(made) => {
+                done = done.saturating_add(1);
+                assert_eq!(rt; made, (ViewId { number: done }, root));
+            }
+            Err(fault) => {
+                assert_eq!(rt; fault, want);
+                want = DbFault::Failed;
+                let got = has(alloc, disk, &mut db, 0x6b, None);
+                assert_eq!(rt; got, Err(DbFault::Failed));
+            }
+        }
+    }
+    let closed = db.close(disk);
+    assert_eq!(rt; closed.is_ok(), done == 2);
+    Ok(done)
+}
+
+#[test]
+fn a_store_that_is_stopped_is_the_map_before_or_after(rt: HostRuntime) -> Result<(), Fail> {
+    let alloc = rt.alloc();
+    for call in 0..9u64 {
+        for alone in [false, true] {
+            let mut disk = MemDisk::new(alloc);
+            let db = opened(alloc, &mut disk, Branch::B16)?;
+            if alone {
+                disk.failing(Vec::from_slice(alloc, &[call])?);
+            } else {
+                disk.fuse(call);
+            }
+            let done = two_commits(&rt, alloc, &mut disk, db)?;
+            for noise in 0..18u64 {
+                let pick = match noise {
+                    16 => Pick::Kept,
+                    17 => Pick::Lost,
+                    _ => Pick::Noise(noise),
+                };
+                let mut crashed = disk.crash(pick)?;
+                let found = found_map(alloc, &mut crashed)?;
+                let before = found == Some(done);
+                let after = found == Some(done.saturating_add(1));
+                assert!(rt; before || after, "{done} done, at call {call}, {pick:?}");
+            }
+        }
+    }
+    Ok(())
+}
+
+#[test]
+fn a_payload_that_is_too_large_is_told_and_changes_nothing(rt: HostRuntime) -> Result<(), Fail> {
+    let alloc = rt.alloc();
+    let mut disk = MemDisk::new(alloc);
+    let mut db = opened(alloc, &mut disk, Branch::B16)?;
+    // 129 changes of 262,150 bytes, and their number in two bytes.
+    let mut batch = Batch::new(alloc);
+    for key in 0..129u8 {
+        let mut value = Vec::new(alloc);
+        value.resize(262_144, 0)?;
+        batch.set(owned(alloc, &[key])?, Some(value))?;
+    }
+    let again = batch.copy(alloc)?;
+    assert_eq!(rt;
+        applied(alloc, &mut disk, &mut db, batch),
+        Err(DbFault::TooLarge(33_817_352))
+    );
+    let one = batch_of(alloc, &[(b"k", Some(b"v"))])?;
+    let root = root_of_one(0x6b, 0x76);
+    assert_eq!(rt;
+        applied(alloc, &mut disk, &mut db, one),
+        Ok((ViewId { number: 1 }, root))
+    );
+    // A store that failed is told first.
+    disk.fuse(0);
+    let none = batch_of(alloc, &[])?;
+    assert_eq!(rt;
+        applied(alloc, &mut disk, &mut db, none),
+        Err(DbFault::Disk)
+    );
+    assert_eq!(rt;
+        applied(alloc, &mut disk, &mut db, again),
+        Err(DbFault::Failed)
+    );
+    Ok(())
+}
+
+#[test]
+fn digests_follow_what_is_put_and_removed(rt: HostRuntime) -> Result<(), Fail> {
+    let alloc = rt.alloc();
+    let mut digests = Digests::new(alloc);
+    assert_eq!(rt; digests.root(alloc, Branch::B16), Ok(EMPTY));
+    digests.put(KeyBytes::from_slice(alloc, b"l")?, value_digest(b"w"))?;
+    digests.put(KeyBytes::from_slice(alloc, b"k")?, value_digest(b"x"))?;
+    digests.put(KeyBytes::from_slice(alloc, b"k")?, value_digest(b"v"))?;
+    assert_eq!(rt; digests.root(alloc, Branch::B16), Ok(root_of_both()));
+    let mut copy = digests.copy(alloc)?;
+    digests.remove(&KeyBytes::from_slice(alloc, b"l")?);
+    digests.remove(&KeyBytes::from_slice(alloc, b"x")?);
+    assert_eq!(rt;
+        digests.root(alloc, Branch::B16),
+        Ok(root_of_one(0x6b, 0x76))
+    );
+    copy.lay(
+        alloc,
+        &batch_of(alloc, &[(b"k", None), (b"l", Some(b"v"))])?,
+    )?;
+    assert_eq!(rt; copy.root(alloc, Branch::B16), Ok(root_of_one(0x6c, 0x76)));
+    Ok(())
+}

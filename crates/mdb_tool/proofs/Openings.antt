@@ -1,0 +1,58 @@
+-- What an opened store keeps, and why none is opened.
+use Rattle.std.proofs.Common.{◌≡◌, ◌⊎◌, inl, inr, ℕ, ◌≤◌, refl, sym, subst}
+use Rattle.base_model.specs.Faults.{Rose}
+use Rattle.disk_model.specs.Files.{Files}
+use Rattle.disk_model.specs.Moments.{Moments}
+use Rattle.disk_model.specs.Words.{TellsContents}
+use Rattle.trie_model.specs.Maps.{Map, limits}
+use Rattle.store_model.specs.Journal.{Stands}
+use Rattle.store_model.specs.Openings.{Opens}
+use Rattle.store_model.proofs.Journals.{files_stand_for_one_map}
+use Rattle.mdb_journal.specs.Opening.{Untouched}
+use Rattle.mdb_core.specs.Stores.{DbState, Keeps}
+use Rattle.mdb_core.specs.Opens.{OpenFails}
+use Rattle.mdb_core.specs.declared.fault.DbFault.{DbFault}
+use Rattle.mdb_core.specs.declared.fault.DbFault.TheVariants.{Disk, NotAStore, BranchDiffers, Damaged, Failed, TooMany, TooLarge, Full, NoMemory}
+use Rattle.mdb_core.proofs.KeptStores.{kept_stands}
+use Rattle.run_model.specs.Outside.{DiskSeen}
+use Rattle.mdb_tool.specs.Ends.{end_of_fault}
+use Rattle.mdb_tool.specs.Opening.{KeepsMaps, IsOpen, FailsBy}
+use Rattle.mdb_tool.proofs.Telling.{rose_at_last}
+
+-- why no store was opened
+pub opening_fails : (w : ℕ) (before after : DiskSeen) (fault : DbFault) → (TellsContents before.tells → OpenFails w before.files fault) → (fault ≡ Disk → Rose before.faults after.faults)
+    → (fault ≡ NoMemory → TellsContents before.tells → (m : Map) → Stands limits before.files m → Stands limits after.files m) → FailsBy w before after (end_of_fault fault)
+opening_fails w before after Disk refused rose kept = rose refl
+opening_fails w before after (NotAStore file) refused rose kept = refused
+opening_fails w before after (BranchDiffers asked given) refused rose kept = refused
+opening_fails w before after (Damaged file at) refused rose kept = refused
+opening_fails w before after NoMemory refused rose kept = kept refl
+opening_fails w before after Failed refused rose kept = λ told m stands. absurd (refused told)
+opening_fails w before after TooMany refused rose kept = λ told m stands. absurd (refused told)
+opening_fails w before after (TooLarge n) refused rose kept = λ told m stands. absurd (refused told)
+opening_fails w before after Full refused rose kept = λ told m stands. absurd (refused told)
+
+-- an opened store keeps the map that the files stood for
+pub open_keeps : (w : ℕ) (before mid : DiskSeen) (s : DbState) → IsOpen w before mid s → TellsContents before.tells → (m : Map) → Stands limits before.files m → Keeps s m mid.files
+open_keeps w before mid s o told m stands =
+    let found = o.opened told in
+    subst (λ n. Keeps s n mid.files) (files_stand_for_one_map limits before.files found.map m found.stands stands) found.keeps
+
+-- and the files still stand for it
+pub open_stands : (w : ℕ) (before mid : DiskSeen) (s : DbState) → IsOpen w before mid s → TellsContents before.tells → (m : Map) → Stands limits before.files m → Stands limits mid.files m
+open_stands w before mid s o told m stands = kept_stands s m mid.files (open_keeps w before mid s o told m stands)
+
+-- files that were not written to
+pub untouched_stands : (was is : Files) (old new : Moments) (m : Map) → Untouched was is old new → Stands limits was m → Stands limits is m
+untouched_stands was is old new m u stands = subst (λ files. Stands limits files m) (sym u.seen) stands
+
+pub untouched_keeps : (before mid after : DiskSeen) → KeepsMaps before mid → Untouched mid.files after.files mid.moments after.moments → KeepsMaps before after
+untouched_keeps before mid after keeps u = λ told m stands. subst (λ now. Opens limits m before.moments now) (sym u.images) (keeps told m stands)
+
+-- a look-up that fails
+pub look_up_fails : (w : ℕ) (before mid after : DiskSeen) (s : DbState) (fault : DbFault) → IsOpen w before mid s → before.faults ≤ mid.faults → Untouched mid.files after.files mid.moments after.moments
+    → (fault ≡ Disk) ⊎ (fault ≡ NoMemory) → (fault ≡ Disk → Rose mid.faults after.faults) → FailsBy w before after (end_of_fault fault)
+look_up_fails w before mid after s fault o later u (inl disk) rose =
+    subst (λ f. FailsBy w before after (end_of_fault f)) (sym disk) (rose_at_last before.faults mid.faults after.faults later (rose disk))
+look_up_fails w before mid after s fault o later u (inr memory) rose =
+    subst (λ f. FailsBy w before after (end_of_fault f)) (sym memory) (λ told m stands. untouched_stands mid.files after.files mid.moments after.moments m u (open_stands w before mid s o told m stands))

@@ -1,0 +1,88 @@
+// The command `get`: the value of a key in a store.
+ghost use Rattle.std.specs.Prelude.{◌≡◌, ◌≤◌, ℕ, List, Option, IfOk, IfErr, option_map, string_bytes};
+ghost use Rattle.text_model.specs.Texts.{value_text};
+ghost use Rattle.bit_keys.specs.Branch.{width_of};
+ghost use Rattle.run_model.specs.Outside.{outside, disk_seen};
+ghost use Rattle.run_model.specs.Command.{Get};
+ghost use Rattle.run_model.specs.Get.{GetRuns};
+ghost use Rattle.run_model.specs.Runs.{SharedRuns};
+ghost use Rattle.mdb_tool.specs.Ends.{end_of};
+ghost use Rattle.mdb_tool.specs.Opening.{KeepsMaps, FailsBy};
+ghost use Rattle.mdb_tool.specs.Get.{IsValue};
+
+use crate::opening::{open_store, status_of_fault};
+use crate::status::Status;
+use bit_keys::Branch;
+use disk_world::Disk;
+use mdb_base::{NoMemory, Sink, write_all};
+use mdb_core::At;
+use std::alloc::Global;
+
+// The line that is printed. A value of no bytes is a dash.
+fn line_of_value(alloc: Global, value: &Option<Vec<u8>>) -> Result<String, NoMemory>
+    ensures { IfOk result (λ text. string_bytes text ≡ value_text (option_map (λ v. v.items) value.now)) }
+{
+    let Some(value) = value else {
+        return Ok(String::from_str(alloc, "none\n")?);
+    };
+    if value.is_empty() {
+        return Ok(String::from_str(alloc, "value -\n")?);
+    }
+    let digits = hex::encode(alloc, value.as_slice())?;
+    Ok(format!(in alloc; "value {digits}\n")?)
+}
+
+// The value of a key in the store of a disk.
+fn look_up<D: Disk>(
+    alloc: Global,
+    branch: Branch,
+    key: &[u8],
+    disk: &mut D,
+) -> Result<Option<Vec<u8>>, Status>
+    ensures found { IfOk result (λ value. IsValue key.now (width_of branch) (disk_seen D.words disk.old) (disk_seen D.words disk.new) (option_map (λ v. v.items) value)) }
+    ensures fails { IfErr result (λ status. FailsBy (width_of branch) (disk_seen D.words disk.old) (disk_seen D.words disk.new) (end_of status)) }
+    ensures opens { KeepsMaps (disk_seen D.words disk.old) (disk_seen D.words disk.new) }
+    ensures later { D.words.faults disk.old ≤ D.words.faults disk.new }
+{
+    let mut db = match open_store(alloc, branch, disk) {
+        Ok(db) => db,
+        Err(status) => return Err(status),
+    };
+    let value = match db.get(alloc, disk, At::Store, key) {
+        Ok(value) => value,
+        Err(fault) => return Err(status_of_fault(fault)),
+    };
+    match db.close(disk) {
+        Ok(()) => Ok(value),
+        Err(fault) => Err(status_of_fault(fault)),
+    }
+}
+
+/// Prints the value that a store has at a key. It is handed no input: its clauses hold of each one, which
+/// is as it was.
+pub(crate) fn run_get<K: Sink, D: Disk>(
+    alloc: Global,
+    branch: Branch,
+    key: &[u8],
+    out: &mut K,
+    disk: &mut D,
+) -> Status
+    ensures shared { (left : Option (List ℕ)) (reads : ℕ) → let before = outside left reads (K.taken out.old) (K.faults out.old) (disk_seen D.words disk.old) in
+        let after = outside left reads (K.taken out.new) (K.faults out.new) (disk_seen D.words disk.new) in
+        SharedRuns (Get key.now) (width_of branch) before after (end_of result) }
+    ensures get { (left : Option (List ℕ)) (reads : ℕ) → let before = outside left reads (K.taken out.old) (K.faults out.old) (disk_seen D.words disk.old) in
+        let after = outside left reads (K.taken out.new) (K.faults out.new) (disk_seen D.words disk.new) in
+        GetRuns key.now (width_of branch) before after (end_of result) }
+{
+    let value = match look_up(alloc, branch, key, disk) {
+        Ok(value) => value,
+        Err(status) => return status,
+    };
+    let Ok(line) = line_of_value(alloc, &value) else {
+        return Status::NoMemory;
+    };
+    match write_all(out, line.as_bytes()) {
+        Ok(()) => Status::Done,
+        Err(_) => Status::Write,
+    }
+}

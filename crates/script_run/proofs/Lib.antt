@@ -1,0 +1,13 @@
+pub mod WaitingChanges
+pub mod KeptFiles
+pub mod PrintedText
+pub mod KeptSteps
+pub mod Stopping
+pub mod Parts
+pub mod Commits
+pub mod QuietLines
+pub mod LastBatch
+pub mod UsedBytes
+pub mod ScriptSoFar
+pub mod LineCauses
+pub mod WholeScripts

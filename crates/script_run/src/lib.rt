@@ -1,0 +1,17 @@
+//! Scripts on a store: their lines are read one after another, done, and told.
+//!
+//! It stands on `mdb_core` for the store and on `batch_text` for the lines. `SessionEnd` says how a
+//! script ends; the words are those of `session_model` and `run_model`.
+#![tactic(auto)]
+
+mod committing;
+mod end;
+mod line_step;
+mod pending;
+mod script;
+
+pub use end::SessionEnd;
+pub use script::session;
+
+#[cfg(test)]
+mod tests;
