@@ -203,83 +203,127 @@ fn files_that_are_no_such_store_are_told(rt: HostRuntime) -> Result<(), Fail> {
     Ok(())
 }
 
-// Whatever call of the disk fails, it is told, and after a crash the commit is there or it is not; it is
-// there where its line was printed.
+/// Two commits, of which the second changes the value. In pieces of ten bytes they are read by five calls.
+const CHANGED: &[u8] = b"put 6b 76\ncommit\nput 6b 77\ncommit\n";
+
+/// The lines of both.
+const TWO: &str = "commit 1 1e06a9a1d455f9698b60b63f9d11dbed46ae35a85b0d74fa5b05423b34217822\n\
+                   commit 2 aae8e93fb49eac2ee7ed9b522c3aad291cecf3d448b2270cf43ce75a89ff223f\n";
+
+// Runs them, with reads and writes of which some fail: how that ends, and what it prints.
+fn changed(
+    alloc: Global,
+    disk: &mut MemDisk,
+    reads: Vec<u64>,
+    writes: Vec<u64>,
+) -> Result<(Status, MemSink), Fail> {
+    let mut input = MemSource::new(Vec::from_slice(alloc, CHANGED)?, 10, reads);
+    let mut out = MemSink::new(alloc, writes);
+    let ended = run(alloc, &words(alloc, APPLY)?, &mut input, &mut out, disk);
+    Ok((ended, out))
+}
+
+// How many of them were told.
+fn told(out: &MemSink) -> Result<u64, Fail> {
+    if out.bytes().is_empty() {
+        Ok(0)
+    } else if out.bytes() == ONE.as_bytes() {
+        Ok(1)
+    } else if out.bytes() == TWO.as_bytes() {
+        Ok(2)
+    } else {
+        Err(Fail::new("other lines were printed"))
+    }
+}
+
+// How many of them a run of `get` finds.
+fn found(rt: &impl Abort, alloc: Global, disk: &mut MemDisk) -> Result<u64, Fail> {
+    let mut out = MemSink::new(alloc, Vec::new(alloc));
+    let mut input = MemSource::new(Vec::new(alloc), 1, Vec::new(alloc));
+    let ended = run(alloc, &words(alloc, GET)?, &mut input, &mut out, disk);
+    assert_eq!(rt; ended, Status::Done);
+    if out.bytes() == b"none\n".as_slice() {
+        Ok(0)
+    } else if out.bytes() == b"value 76\n".as_slice() {
+        Ok(1)
+    } else if out.bytes() == b"value 77\n".as_slice() {
+        Ok(2)
+    } else {
+        Err(Fail::new("another value was found"))
+    }
+}
+
+// Whatever call of the disk fails, alone or with all after it, it is told; and a crash leaves each commit that was
+// told, and at most one more.
 #[test]
 fn a_disk_that_fails_is_told(rt: HostRuntime) -> Result<(), Fail> {
     let alloc = rt.alloc();
-    for calls in 0..64u64 {
-        let mut disk = MemDisk::new(alloc);
-        disk.fuse(calls);
-        let mut input = MemSource::new(Vec::from_slice(alloc, b"put 6b 76\n")?, 3, Vec::new(alloc));
-        let mut out = MemSink::new(alloc, Vec::new(alloc));
-        let ended = run(
-            alloc,
-            &words(alloc, APPLY)?,
-            &mut input,
-            &mut out,
-            &mut disk,
-        );
-        let printed = out.bytes() == ONE.as_bytes();
-        if printed {
-            assert_eq!(rt; ended, Status::Done, "after {calls} calls");
-        } else {
-            assert_eq!(rt; ended, Status::Disk, "after {calls} calls");
-            assert!(rt; out.bytes().is_empty(), "after {calls} calls");
-        }
-        for pick in [Pick::Kept, Pick::Lost, Pick::Noise(1)] {
-            let mut left = disk.crash(pick)?;
-            let mut out = MemSink::new(alloc, Vec::new(alloc));
-            let mut input = MemSource::new(Vec::new(alloc), 1, Vec::new(alloc));
-            let ended = run(alloc, &words(alloc, GET)?, &mut input, &mut out, &mut left);
-            assert_eq!(rt; ended, Status::Done, "after {calls} calls and {pick:?}");
-            let there = out.bytes() == b"value 76\n".as_slice();
-            assert!(rt;
-                there || out.bytes() == b"none\n".as_slice(),
-                "after {calls} calls and {pick:?}"
-            );
-            assert!(rt; there || !printed, "after {calls} calls and {pick:?}");
+    for calls in 0..32u64 {
+        for alone in [false, true] {
+            let mut disk = MemDisk::new(alloc);
+            if alone {
+                disk.failing(Vec::from_slice(alloc, &[calls])?);
+            } else {
+                disk.fuse(calls);
+            }
+            let (ended, out) = changed(alloc, &mut disk, Vec::new(alloc), Vec::new(alloc))?;
+            let count = told(&out)?;
+            assert!(rt; count == 2 || calls < 31, "none of {calls} calls is enough");
+            let want = if count == 2 {
+                Status::Done
+            } else {
+                Status::Disk
+            };
+            assert_eq!(rt; ended, want, "at {calls}, alone {alone}");
+            for noise in 0..18u64 {
+                let pick = match noise {
+                    16 => Pick::Kept,
+                    17 => Pick::Lost,
+                    _ => Pick::Noise(noise),
+                };
+                let left = found(&rt, alloc, &mut disk.crash(pick)?)?;
+                assert!(rt;
+                    left == count || left == count.saturating_add(1),
+                    "at {calls}, alone {alone}, {pick:?}"
+                );
+            }
         }
     }
     Ok(())
 }
 
-// The first read or the first write fails. The commit is there where its line could not be printed.
+// A failed read ends the script before its next line, and what is pending then is dropped. A failed write ends it
+// behind a commit, which stays.
 #[test]
 fn a_read_or_a_write_that_fails_ends_a_script(rt: HostRuntime) -> Result<(), Fail> {
     let alloc = rt.alloc();
-    let rows: [(&[u64], &[u64], Status, &[Turn]); 2] = [
-        (
-            &[0],
-            &[],
-            Status::Read,
-            &[(GET, b"", Status::Done, "none\n")],
-        ),
-        (
-            &[],
-            &[0],
-            Status::Write,
-            &[(GET, b"", Status::Done, "value 76\n")],
-        ),
+    // The call that fails, the end, how many commits were told by then, and how many are kept.
+    let reads = [
+        (0u64, Status::Read, 0u64, 0u64),
+        (1, Status::Read, 0, 0),
+        (2, Status::Read, 1, 1),
+        (3, Status::Read, 1, 1),
+        (4, Status::Read, 2, 2),
+        (5, Status::Done, 2, 2),
     ];
-    for (reads, writes, want, turns) in rows {
+    for (call, want, count, kept) in reads {
         let mut disk = MemDisk::new(alloc);
-        let mut input = MemSource::new(
-            Vec::from_slice(alloc, b"put 6b 76\n")?,
-            3,
-            Vec::from_slice(alloc, reads)?,
-        );
-        let mut out = MemSink::new(alloc, Vec::from_slice(alloc, writes)?);
-        let ended = run(
-            alloc,
-            &words(alloc, APPLY)?,
-            &mut input,
-            &mut out,
-            &mut disk,
-        );
-        assert_eq!(rt; ended, want);
-        assert!(rt; out.bytes().is_empty(), "of {want:?}");
-        assert_turns(&rt, alloc, &mut disk, turns)?;
+        let failing = Vec::from_slice(alloc, &[call])?;
+        let (ended, out) = changed(alloc, &mut disk, failing, Vec::new(alloc))?;
+        assert_eq!(rt; (ended, told(&out)?), (want, count), "read {call}");
+        assert_eq!(rt; found(&rt, alloc, &mut disk)?, kept, "read {call}");
+    }
+    let writes = [
+        (0u64, Status::Write, 0u64, 1u64),
+        (1, Status::Write, 1, 2),
+        (2, Status::Done, 2, 2),
+    ];
+    for (call, want, count, kept) in writes {
+        let mut disk = MemDisk::new(alloc);
+        let failing = Vec::from_slice(alloc, &[call])?;
+        let (ended, out) = changed(alloc, &mut disk, Vec::new(alloc), failing)?;
+        assert_eq!(rt; (ended, told(&out)?), (want, count), "write {call}");
+        assert_eq!(rt; found(&rt, alloc, &mut disk)?, kept, "write {call}");
     }
     Ok(())
 }
