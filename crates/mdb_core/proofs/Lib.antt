@@ -1,7 +1,7 @@
 pub mod MapDigests
 pub mod LastPuts
+pub mod TakenDigests
 pub mod LaidChanges
 pub mod CountedKeys
 pub mod KeptStores
-pub mod KeysInOrder
 pub mod OpenedStores

@@ -4,6 +4,7 @@ ghost use Rattle.std.specs.FinMap.Entries.{put};
 ghost use Rattle.std.specs.Map.{remove_entry};
 ghost use Rattle.std.specs.BTreeMap.{is_at};
 ghost use Rattle.base_model.specs.Bytes.{bytes_cmp};
+ghost use Rattle.trie_model.specs.Hashing.{value_digest as digest_of};
 ghost use Rattle.trie_model.specs.Maps.{Map, map_digests, map_items, root as root_of_map};
 ghost use Rattle.trie_model.specs.Strings.{strings};
 ghost use Rattle.batch_model.specs.Batch.{put_or_removed, after_batch};
@@ -18,6 +19,7 @@ use std::collections::BTreeMap;
 use std::marker::Model;
 use std::sync::ledger::Ledger;
 use trie_items::{Digest, Steps, value_digest};
+use value_store::PairSink;
 
 /// The bytes of a key. Up to 32 of them are kept in place.
 pub type KeyBytes = SmallVec<u8, 32>;
@@ -34,6 +36,14 @@ impl Model for Digests {
     ghost Value = { List (List ℕ × List ℕ) };
 
     ghost view = { λ d. map (λ e. (e.0.items, e.1)) d.entries.entries };
+}
+
+impl PairSink for Digests {
+    ghost takes = { λ old key value new. new ≡ put bytes_cmp key (digest_of value) old };
+
+    fn take(&mut self, alloc: Global, key: &[u8], value: &[u8]) -> Result<(), NoMemory> {
+        self.put_copy(alloc, key, value_digest(value))
+    }
 }
 
 impl Digests {

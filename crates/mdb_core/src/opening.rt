@@ -1,18 +1,14 @@
 // Opening a store.
-ghost use Rattle.std.specs.Prelude.{◌≡◌, ◌⊎◌, ◌≤◌, ℕ, List, false, true, Some, None, OnOk, IfOk, IfErr, IsErrOf};
-ghost use Rattle.std.specs.FinMap as map_of;
-ghost use Rattle.std.specs.FinMap.Entries.{put};
-ghost use Rattle.base_model.specs.Bytes.{bytes_cmp};
+ghost use Rattle.std.specs.Prelude.{◌≡◌, ◌⊎◌, ◌≤◌, ℕ, false, OnOk, IfOk, IfErr, IsErrOf};
 ghost use Rattle.base_model.specs.Faults.{Rose};
 ghost use Rattle.disk_model.specs.Moments.{LeavesOnly};
 ghost use Rattle.disk_model.specs.Words.{TellsContents, TellsImages};
-ghost use Rattle.trie_model.specs.Hashing.{value_digest as digest_of};
 ghost use Rattle.trie_model.specs.Maps.{Map, limits, map_digests};
 ghost use Rattle.bit_keys.specs.Branch.{width_of};
 ghost use Rattle.store_model.specs.Journal.{Stands};
 ghost use Rattle.mdb_journal.specs.Moves.{AreSynced};
 ghost use Rattle.mdb_journal.specs.Opening.{Untouched};
-ghost use Rattle.value_store.specs.Values.{Keeps as ValuesKeep, keys_of, next_of};
+ghost use Rattle.value_store.specs.Values.{Keeps as ValuesKeep};
 ghost use Rattle.store_model.specs.Openings.{Opens};
 ghost use Rattle.mdb_core.specs.Stores.{Keeps, is_failed};
 ghost use Rattle.mdb_core.specs.Opens.{Opened, OpenFails};
@@ -22,7 +18,6 @@ use crate::{Config, Db, DbFault, Digests};
 use bit_keys::Branch;
 use disk_world::Disk;
 use std::alloc::Global;
-use trie_items::value_digest;
 use value_store::ValueStore;
 
 impl Db {
@@ -101,55 +96,8 @@ fn read_digests<D: Disk>(
     ensures disk { IsErrOf result DbFault.Disk → Rose (D.words.faults disk.old) (D.words.faults disk.new) }
 {
     let mut digests = Digests::new(alloc);
-    let mut key = Vec::new(alloc);
-    let mut past = false;
-    while next_key(values, &mut key, past)? {
-        note_digest(alloc, disk, values, &key, &mut digests)?;
-        past = true;
-    }
-    Ok(digests)
-}
-
-/// Goes to the least key at or above this one, or above it where `past`, and says whether there is one.
-fn next_key(values: &ValueStore, key: &mut Vec<u8>, past: bool) -> Result<bool, DbFault>
-    ensures found { IfOk result (λ found. found ≡ true → next_of (keys_of values.now) key.old.items past ≡ Some key.new.items) }
-    ensures none { IfOk result (λ found. found ≡ false → next_of (keys_of values.now) key.old.items past ≡ None) }
-    ensures fault { IfErr result (λ fault. fault ≡ DbFault.NoMemory) }
-{
-    let Some(next) = values.next(key, past) else {
-        return Ok(false);
-    };
-    key.clear();
-    match key.extend_from_slice(next) {
-        Ok(()) => Ok(true),
-        Err(_) => Err(DbFault::NoMemory),
-    }
-}
-
-/// Keeps the digest of the value that stands at a key.
-fn note_digest<D: Disk>(
-    alloc: Global,
-    disk: &mut D,
-    values: &mut ValueStore,
-    key: &[u8],
-    digests: &mut Digests,
-) -> Result<(), DbFault>
-    requires works { values.old.journal.failed ≡ false }
-    ensures noted { TellsContents D.words.tells → (m : Map) → ValuesKeep values.old m (D.words.seen disk.old)
-        → (v : List ℕ) → map_of.get m key.now ≡ Some v → OnOk result (digests.new ≡ put bytes_cmp key.now (digest_of v) digests.old) }
-    ensures stays { OnOk result (values.new ≡ values.old) }
-    ensures fault { IfErr result (λ fault. (fault ≡ DbFault.Disk) ⊎ (fault ≡ DbFault.NoMemory)) }
-    ensures untouched { Untouched (D.words.seen disk.old) (D.words.seen disk.new) (D.words.moments disk.old) (D.words.moments disk.new) }
-    ensures later { D.words.faults disk.old ≤ D.words.faults disk.new }
-    ensures disk { IsErrOf result DbFault.Disk → Rose (D.words.faults disk.old) (D.words.faults disk.new) }
-{
-    let value = match values.get(alloc, disk, key) {
-        Ok(Some(value)) => value,
-        Ok(None) => return Ok(()),
-        Err(fault) => return Err(told(fault)),
-    };
-    match digests.put_copy(alloc, key, value_digest(&value)) {
-        Ok(()) => Ok(()),
-        Err(_) => Err(DbFault::NoMemory),
+    match values.each(alloc, disk, &mut digests) {
+        Ok(()) => Ok(digests),
+        Err(fault) => Err(told(fault)),
     }
 }

@@ -1,8 +1,7 @@
 -- What a value store keeps of a map: key by key, and of the files.
-use Rattle.std.proofs.Common.{◌≡◌, ℕ, ◌≤◌, Bool, true, false, cond, List, [], ◌∷◌, map, refl, sym, ap, ◌∙◌, subst, Option, Some, None, Ok, option_map, is_some, arith}
+use Rattle.std.proofs.Common.{◌≡◌, ℕ, ◌≤◌, Bool, true, false, cond, List, [], ◌∷◌, map, refl, sym, ap, ◌∙◌, subst, Some, Ok, option_map, is_some, arith}
 use Rattle.std.specs.Ordering.{eq_by_cmp}
 use Rattle.std.specs.FinMap.{find, get, entries, get-entries, contains_key, contains_key-keys}
-use Rattle.std.specs.FinMap.Entries.{is_some-find}
 use Rattle.std.specs.List.{list_any}
 use Rattle.base_model.specs.Bytes.{bytes_cmp}
 use Rattle.disk_model.specs.Files.{Files}
@@ -11,9 +10,8 @@ use Rattle.trie_model.specs.Maps.{Map, limits}
 use Rattle.store_model.specs.Header.{header_of}
 use Rattle.store_model.specs.Journal.{IsJournal, Stands, active, later}
 use Rattle.store_model.proofs.Journals.{active_header, files_stand_for_one_map}
-use Rattle.mdb_journal.specs.Journal.{Knows}
 use Rattle.mdb_journal.proofs.Opened.{known_hold}
-use Rattle.value_store.specs.Values.{Place, ValueState, Keeps, HasKeys, keys_of, pair_in, value_in}
+use Rattle.value_store.specs.Values.{Place, ValueState, Keeps, HasKeys, pair_in, value_in}
 use Rattle.value_store.specs.Index.{Places}
 use Rattle.value_store.specs.Opens.{Opened}
 

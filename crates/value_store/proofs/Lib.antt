@@ -12,3 +12,4 @@ pub mod OpenedStores
 pub mod PlacesAfter
 pub mod PlacedMaps
 pub mod WrittenBatches
+pub mod PairsTaken

@@ -1,17 +1,17 @@
 -- A field is read of the bytes that follow its place, and of so many of them alone.
-use Rattle.std.proofs.Common.{◌≡◌, ℕ, zero, suc, ◌+◌, ◌-◌, ◌<◌, ◌≤◌, min, Bool, true, false, cond, List, [], ◌∷◌, ◌++◌, length, get_or, take, drop, Option, Some, None, Result, Ok, Err, refl, sym, ap, ◌∙◌, arith, subst, ltb, leb, eqb, inl, inr, length-append, length-take, length-drop, take-append-drop, get_or-take, get_or-drop}
+use Rattle.std.proofs.Common.{◌≡◌, ℕ, ◌+◌, ◌-◌, ◌<◌, ◌≤◌, min, Bool, true, false, cond, List, [], ◌∷◌, ◌++◌, length, get_or, take, drop, Option, Some, None, Result, Ok, Err, refl, sym, ap, ◌∙◌, arith, subst, ltb, leb, eqb, inl, inr, length-take, length-drop, take-append-drop, get_or-take, get_or-drop}
 use Rattle.std.proofs.lemmas.Bool.{cases_lt}
 use Rattle.std.proofs.lemmas.Bool.Decides.{nat_tests}
 use Rattle.std.proofs.Math.Seq.{take-length}
 use Rattle.std.proofs.lemmas.List.{take_all, take-append-le, drop-drop, drop-take}
 use Rattle.base_model.specs.ReadUvarint.{UvarintFault, placed, uvarint_read}
 use Rattle.base_model.specs.Fields.{Field, ◌>>=◌, number_or_fault, number_at, bytes_at, flag_at}
-use Rattle.base_model.proofs.Fields.{got, bytes_at-Stands, flag_at-Stands}
-use Rattle.base_model.proofs.Results.{ok_is, bind_ok, passed, met}
+use Rattle.base_model.proofs.Fields.{got, bytes_at-Stands}
+use Rattle.base_model.proofs.Results.{ok_is, passed}
 use Rattle.trie_model.specs.Maps.{Limits}
 use Rattle.batch_model.specs.Sized.{sized_at}
 use Rattle.batch_model.specs.Batch.{BatchFault, Outside, comes_after, key_at}
-use Rattle.value_store.specs.Heads.{Head, limited_at, count_at, head_at}
+use Rattle.value_store.specs.Heads.{limited_at, count_at, head_at}
 use Rattle.value_store.proofs.LocalNumbers.{first_ten, read_length}
 
 -- a piece of the bytes from a place on: at least so many of them, or all

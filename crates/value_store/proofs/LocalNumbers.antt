@@ -1,11 +1,11 @@
 -- A number is read of its first bytes alone.
-use Rattle.std.proofs.Common.{◌≡◌, ℕ, zero, suc, ◌+◌, ◌<◌, ◌≤◌, Bool, true, false, cond, ◌&&◌, List, [], ◌∷◌, ◌++◌, length, get_or, take, refl, sym, ap, ◌∙◌, arith, ltb, leb, Result, Ok, Err, inl, inr, length-append}
+use Rattle.std.proofs.Common.{◌≡◌, ℕ, suc, ◌+◌, ◌<◌, ◌≤◌, true, false, cond, ◌&&◌, List, [], ◌∷◌, ◌++◌, length, get_or, take, refl, sym, ap, ◌∙◌, arith, ltb, leb, Result, Ok, Err, inl, inr, length-append}
 use Rattle.std.proofs.Math.ListN.{get_or-append}
 use Rattle.std.proofs.lemmas.Bool.{cases_lt}
 use Rattle.std.proofs.lemmas.Bool.Decides.{nat_tests}
 use Rattle.std.proofs.lemmas.List.{take-append-le}
 use Rattle.base_model.specs.ReadUvarint.{UvarintFault, Long, Short, NotShortest, high_run, groups_value, uvarint_read}
-use Rattle.base_model.proofs.ReadNumbers.{high_run-low, high_run-high, high_run-fits, in_run}
+use Rattle.base_model.proofs.ReadNumbers.{high_run-low, high_run-high, in_run}
 use Rattle.base_model.proofs.Results.{ok_is, passed}
 
 -- a run that ends within the bytes is the same with more behind them

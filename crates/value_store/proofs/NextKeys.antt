@@ -1,12 +1,11 @@
 -- The next key and the last one.
-use Rattle.std.proofs.Common.{◌≡◌, ℕ, zero, suc, ◌+◌, ◌-◌, ◌<◌, Bool, true, false, cond, not, List, [], ◌∷◌, ◌++◌, map, length, refl, sym, ap, ◌∙◌, subst, arith, Vec, Global, Bor, Option, Some, None, option_map, Ordering, Less, Equal, Greater}
+use Rattle.std.proofs.Common.{◌≡◌, ℕ, zero, suc, ◌-◌, ◌<◌, Bool, true, false, cond, not, List, [], ◌∷◌, map, length, refl, sym, ap, ◌∙◌, arith, Vec, Global, Bor, Option, Some, None, option_map, Ordering, Less, Equal, Greater}
 use Rattle.std.specs.Prelude.{◌&&◌, slice_get, MatchOption, IfSome, IsSome}
 use Rattle.std.specs.Ordering.{is_eq, is_lt, is_le}
 use Rattle.std.specs.List.{filter}
 use Rattle.std.proofs.lemmas.Bool.{false≢true}
 use Rattle.std.specs.FinMap.{keys}
 use Rattle.std.specs.Map.{keys_of}
-use Rattle.base_model.specs.Bytes.{bytes_cmp}
 use Rattle.trie_model.proofs.PlainEntries.{vec_items}
 use Rattle.value_store.specs.Values.{Place, is_next, next_of, last_of}
 use Rattle.value_store.specs.Index.{placed, places_of, AreInOrder}

@@ -1,12 +1,10 @@
 -- What opening a store finds, and what a crash leaves meanwhile.
-use Rattle.std.proofs.Common.{◌≡◌, ◌⊎◌, inl, inr, ℕ, List, [], ◌∷◌, ◌++◌, Some, None, Ok, refl, sym, ap, ◌∙◌, subst}
+use Rattle.std.proofs.Common.{◌≡◌, ◌⊎◌, inl, inr, ℕ, List, [], ◌∷◌, ◌++◌, None, Ok, refl, sym, subst}
 use Rattle.std.specs.FinMap as map_of
 use Rattle.disk_model.specs.Files.{Files}
-use Rattle.disk_model.specs.Crash.{IsImageOf}
-use Rattle.disk_model.specs.Moments.{Moments, LeavesOnly, Meanwhile}
+use Rattle.disk_model.specs.Moments.{Moments, LeavesOnly}
 use Rattle.disk_model.proofs.Meanwhile.{weaker, quiet}
 use Rattle.trie_model.specs.Maps.{Map, limits}
-use Rattle.store_model.specs.Header.{Header}
 use Rattle.store_model.specs.Record.{Record}
 use Rattle.store_model.specs.Journal.{Hold, Stands, RecordsOf, active}
 use Rattle.store_model.specs.Refusals.{HasWidth, DamagedBatch}
@@ -15,7 +13,6 @@ use Rattle.mdb_journal.specs.Opening.{IsOpened, Refuses, Opens as journal_opens}
 use Rattle.mdb_journal.specs.declared.fault.JournalFault.{JournalFault}
 use Rattle.mdb_journal.specs.declared.fault.JournalFault.TheVariants.{Disk as journal_disk, NotAStore as journal_not, BranchDiffers as journal_differs, Damaged as journal_damaged, TooLarge as journal_too_large, Failed as journal_failed, NoMemory as journal_no_memory}
 use Rattle.mdb_journal.proofs.Opened.{known_hold}
-use Rattle.value_store.specs.Values.{ValueState}
 use Rattle.value_store.specs.Index.{Places, AreInFile}
 use Rattle.value_store.specs.Reading.{store_fault, Found, WrongBatch, RecordsFail}
 use Rattle.store_model.specs.Openings.{Opens}

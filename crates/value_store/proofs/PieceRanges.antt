@@ -1,6 +1,6 @@
 -- Pieces of a payload.
-use Rattle.std.proofs.Common.{◌≡◌, ℕ, zero, ◌+◌, ◌-◌, ◌<◌, ◌≤◌, List, [], ◌∷◌, ◌++◌, length, take, drop, slice_range, refl, sym, ap, ◌∙◌, arith, length-take, length-drop}
-use Rattle.std.proofs.lemmas.List.{drop-drop, drop-take, nil_from_length, take-take, take_at}
+use Rattle.std.proofs.Common.{◌≡◌, ℕ, ◌+◌, ◌-◌, ◌≤◌, List, [], ◌∷◌, ◌++◌, length, take, drop, slice_range, refl, sym, ap, ◌∙◌, arith, length-take, length-drop}
+use Rattle.std.proofs.lemmas.List.{drop-drop, drop-take, nil_from_length, take_at}
 
 -- a part of a list that begins later
 pub range-later : (xs : List ℕ) (i j k : ℕ) → k ≤ j - i → slice_range xs (i + k) j ≡ drop k (slice_range xs i j)

@@ -1,16 +1,15 @@
 -- What a batch makes of a map, by the places of its values.
-use Rattle.std.proofs.Common.{◌≡◌, ℕ, ◌+◌, ◌-◌, ◌<◌, ◌≤◌, Bool, true, false, cond, List, [], ◌∷◌, ◌++◌, map, length, take, drop, refl, sym, ap, ◌∙◌, subst, arith, Option, Some, None, option_map, is_some, append_assoc, length-append, length-drop}
+use Rattle.std.proofs.Common.{◌≡◌, ℕ, ◌+◌, ◌-◌, ◌≤◌, Bool, true, false, cond, List, [], ◌∷◌, ◌++◌, map, length, take, drop, refl, sym, ap, ◌∙◌, subst, arith, Option, Some, None, option_map, is_some, append_assoc, length-append}
 use Rattle.std.specs.Prelude.{T, IfSome}
 use Rattle.std.specs.Ordering.{eq_by_cmp}
 use Rattle.std.specs.List.{flat_map}
-use Rattle.std.specs.FinMap.{find, get, insert, remove, entries, entries_sorted, get-entries, len, len-entries, keys, get-insert, get-remove}
-use Rattle.std.specs.FinMap.Entries.{same_entries, is_sorted}
+use Rattle.std.specs.FinMap.{find, get, entries, entries_sorted, get-entries, len, len-entries, keys, get-insert, get-remove}
+use Rattle.std.specs.FinMap.Entries.{same_entries}
 use Rattle.std.proofs.lemmas.Cmp.{nat_list_cmp_total}
 use Rattle.std.proofs.lemmas.List.{take_at, drop_at, drop-drop, length-map}
 use Rattle.std.proofs.lemmas.List.Concat.{flat_map-cons}
 use Rattle.base_model.specs.Bytes.{bytes_cmp}
 use Rattle.base_model.specs.Uvarint.{uvarint}
-use Rattle.base_model.specs.Fields.{flag_form}
 use Rattle.trie_model.proofs.Entries.{tied_equal}
 use Rattle.trie_model.specs.Maps.{Map}
 use Rattle.batch_model.specs.Sized.{sized_form}

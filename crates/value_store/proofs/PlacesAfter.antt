@@ -15,7 +15,7 @@ use Rattle.base_model.specs.Uvarint.{uvarint}
 use Rattle.batch_model.specs.Sized.{sized_form}
 use Rattle.base_model.specs.Bytes.{bytes_cmp}
 use Rattle.trie_model.proofs.Entries.{tied_equal}
-use Rattle.batch_model.specs.Batch.{Change, AreRising, comes_after, change_form}
+use Rattle.batch_model.specs.Batch.{Change, AreRising, change_form}
 use Rattle.value_store.specs.Values.{Place}
 use Rattle.value_store.specs.Index.{Places, up_to}
 use Rattle.value_store.specs.Reading.{laid}

@@ -1,5 +1,5 @@
 -- From gate to gate of a journal whose records are known.
-use Rattle.std.proofs.Common.{◌≡◌, ◌≢◌, ℕ, suc, ◌+◌, ◌≤◌, Bool, true, false, cond, List, [], ◌∷◌, ◌++◌, length, get_or, take, drop, Some, None, option_map, Result, Ok, Err, refl, sym, ap, ◌∙◌, arith, subst, eqb, append_assoc, length-append, get_or-drop}
+use Rattle.std.proofs.Common.{◌≡◌, ◌≢◌, ℕ, ◌+◌, ◌≤◌, true, false, cond, List, [], ◌∷◌, ◌++◌, length, get_or, take, drop, option_map, Result, Ok, Err, refl, sym, ap, ◌∙◌, arith, subst, eqb, append_assoc, length-append}
 use Rattle.std.specs.List.{AllByRecursion}
 use Rattle.std.specs.FinMap as map_of
 use Rattle.std.specs.FinMap.{get-empty}
@@ -7,11 +7,10 @@ use Rattle.std.proofs.Math.Seq.{get_or-append_seam}
 use Rattle.std.proofs.lemmas.Bool.Decides.{nat_tests}
 use Rattle.std.proofs.lemmas.List.{append-nil, drop_at, take_at, drop-drop}
 use Rattle.base_model.specs.Bytes.{bytes_cmp}
-use Rattle.base_model.specs.Fields.{◌>>=◌}
 use Rattle.base_model.proofs.Results.{ok_is}
 use Rattle.disk_model.specs.Files.{Files}
 use Rattle.trie_model.specs.Maps.{Map, limits}
-use Rattle.batch_model.specs.Batch.{BatchFault, Outside, batch_of}
+use Rattle.batch_model.specs.Batch.{Outside, batch_of}
 use Rattle.store_model.specs.Header.{Header, header_form, first_gate, open_gate}
 use Rattle.store_model.specs.Record.{Record, IsRecord, record_form, records_form, record_at, batch_kind}
 use Rattle.store_model.specs.Journal.{IsJournal, end_of, after_record, after_records}

@@ -1,5 +1,5 @@
 -- What a batch that was appended makes of a store.
-use Rattle.std.proofs.Common.{◌≡◌, ◌⊎◌, inl, inr, ℕ, ◌+◌, ◌-◌, ◌^◌, ◌<◌, ◌≤◌, List, [], ◌∷◌, ◌++◌, map, length, take, drop, Option, Some, None, option_map, is_some, Ok, refl, sym, ap, ◌∙◌, subst, arith, append_assoc, length-append, length-drop}
+use Rattle.std.proofs.Common.{◌≡◌, ◌⊎◌, inl, inr, ℕ, ◌+◌, ◌-◌, ◌≤◌, List, [], ◌∷◌, ◌++◌, map, length, take, drop, Option, Some, None, option_map, Ok, refl, sym, ap, ◌∙◌, subst, arith, append_assoc, length-drop}
 use Rattle.std.specs.Prelude.{IfSome}
 use Rattle.std.specs.List.{flat_map}
 use Rattle.std.specs.FinMap as map_of
@@ -20,7 +20,7 @@ use Rattle.store_model.proofs.Records.{records_form-push}
 use Rattle.store_model.proofs.Journals.{maps_follow_records}
 use Rattle.mdb_journal.specs.Journal.{JournalState, Knows, payload_in, payload_limit, record_in}
 use Rattle.mdb_journal.specs.Moves.{HoldEither}
-use Rattle.value_store.specs.Values.{Place, ValueState, Keeps, HasKeys, value_in, keys_of}
+use Rattle.value_store.specs.Values.{Place, ValueState, Keeps, HasKeys, value_in}
 use Rattle.value_store.specs.Index.{Places, AreInFile, IsInFile}
 use Rattle.value_store.specs.Reading.{Shows}
 use Rattle.value_store.specs.Placing.{laid_all}

@@ -7,3 +7,4 @@ pub mod Reading
 pub mod Placing
 pub mod Writes
 pub mod Opens
+pub mod PairSinks

@@ -1,5 +1,5 @@
 -- What opening a value store finds.
-use Rattle.std.specs.Prelude.{◌≡◌, ℕ}
+use Rattle.std.specs.Prelude.{ℕ}
 use Rattle.disk_model.specs.Files.{Files}
 use Rattle.trie_model.specs.Maps.{Map, limits}
 use Rattle.store_model.specs.Journal.{Stands, active}

@@ -1,11 +1,11 @@
 -- What is read of the batches of a journal.
-use Rattle.std.specs.Prelude.{◌≡◌, ℕ, ◌+◌, List, [], ◌∷◌, ◌++◌, length, take, drop, Option, Some, None, option_map, Result, Ok, Err}
+use Rattle.std.specs.Prelude.{◌≡◌, ℕ, ◌+◌, List, ◌∷◌, ◌++◌, length, take, drop, Option, Some, None, option_map, Result, Ok, Err}
 use Rattle.std.specs.FinMap as map_of
 use Rattle.base_model.specs.Fields.{Field, ◌>>=◌, number_at}
-use Rattle.trie_model.specs.Maps.{Limits, Map, limits}
+use Rattle.trie_model.specs.Maps.{Map, limits}
 use Rattle.batch_model.specs.Batch.{BatchFault, Outside, after_batch, changes_at, batch_of}
 use Rattle.store_model.specs.Record.{Record, batch_kind}
-use Rattle.store_model.specs.Journal.{end_of, after_record, after_records}
+use Rattle.store_model.specs.Journal.{end_of, after_records}
 use Rattle.mdb_journal.specs.declared.fault.JournalFault.{JournalFault}
 use Rattle.mdb_journal.specs.declared.fault.JournalFault.TheVariants as journal
 use Rattle.value_store.specs.declared.fault.ValueFault.{ValueFault}

@@ -1,12 +1,19 @@
 // Where the values of a store stand, by their keys.
-ghost use Rattle.std.specs.Prelude.{◌≡◌, ℕ, ◌+◌, ◌^◌, ◌<◌, ◌≤◌, None, List, IsSome, OnOk, OnErr, option_map, option_copied};
+ghost use Rattle.std.specs.Prelude.{◌≡◌, ◌⊎◌, ℕ, ◌+◌, ◌^◌, ◌<◌, ◌≤◌, true, false, None, List, map, IsSome, IfErr, IsErrOf, OnOk, OnErr, option_map, option_copied};
 ghost use Rattle.std.specs.FinMap as map_of;
 ghost use Rattle.base_model.specs.Bytes.{bytes_cmp};
-ghost use Rattle.value_store.specs.Values.{is_next, next_of, last_of};
-ghost use Rattle.value_store.specs.Index.{up_to};
+ghost use Rattle.base_model.specs.Faults.{Rose};
+ghost use Rattle.disk_model.specs.Words.{TellsContents};
+ghost use Rattle.mdb_journal.specs.Opening.{Untouched};
+ghost use Rattle.value_store.specs.PairSinks.{TakesAll};
+ghost use Rattle.value_store.specs.Values.{is_next, next_of, last_of, pair_in};
+ghost use Rattle.value_store.specs.Index.{AreInFile, up_to};
 
-use crate::Place;
+use crate::reading::read_value;
+use crate::{PairSink, Place, ValueFault};
+use disk_world::Disk;
 use mdb_base::NoMemory;
+use mdb_journal::Journal;
 use std::alloc::Global;
 use std::collections::BTreeMap;
 use std::marker::Model;
@@ -136,6 +143,36 @@ impl Index {
             }
         }
         None
+    }
+
+    /// Reads the value at each place, in the order of the keys, and hands it on with its key.
+    pub(crate) fn each<D: Disk, P: PairSink>(
+        &self,
+        alloc: Global,
+        journal: &mut Journal,
+        disk: &mut D,
+        pairs: &mut P,
+    ) -> Result<(), ValueFault>
+        requires works { journal.old.failed ≡ false }
+        requires within { AreInFile journal.old.end self.now }
+        ensures taken { TellsContents D.words.tells → OnOk result (TakesAll P.takes pairs.old (map (pair_in (D.words.seen disk.old journal.old.file)) (map_of.entries self.now)) pairs.new) }
+        ensures fault { IfErr result (λ fault. (fault ≡ ValueFault.Disk) ⊎ (fault ≡ ValueFault.NoMemory)) }
+        ensures fails { IsErrOf result ValueFault.Disk → journal.new ≡ record journal.old { failed = true } }
+        ensures stays { (IsErrOf result ValueFault.Disk → ⊥) → journal.new ≡ journal.old }
+        ensures untouched { Untouched (D.words.seen disk.old) (D.words.seen disk.new) (D.words.moments disk.old) (D.words.moments disk.new) }
+        ensures later { D.words.faults disk.old ≤ D.words.faults disk.new }
+        ensures disk { IsErrOf result ValueFault.Disk → Rose (D.words.faults disk.old) (D.words.faults disk.new) }
+    {
+        for (key, place) in &self.places {
+            let value = match read_value(alloc, journal, disk, *place) {
+                Ok(value) => value,
+                Err(fault) => return Err(fault),
+            };
+            let Ok(()) = pairs.take(alloc, key, &value) else {
+                return Err(ValueFault::NoMemory);
+            };
+        }
+        Ok(())
     }
 
     /// The greatest key.

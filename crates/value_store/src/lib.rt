@@ -11,6 +11,7 @@ mod index;
 mod last_key;
 mod loader;
 mod opening;
+mod pair_sink;
 mod pieces;
 mod place;
 mod placing;
@@ -20,6 +21,7 @@ mod store;
 mod writing;
 
 pub use fault::ValueFault;
+pub use pair_sink::PairSink;
 pub(crate) use place::Place;
 pub use store::ValueStore;
 

@@ -1,14 +1,16 @@
-// Reading a value.
-ghost use Rattle.std.specs.Prelude.{◌≡◌, ◌⊎◌, ◌≤◌, true, false, is_some, option_map, IfOk, IfErr, IsErrOf};
+// Reading values.
+ghost use Rattle.std.specs.Prelude.{◌≡◌, ◌⊎◌, ◌+◌, ◌≤◌, true, false, is_some, option_map, OnOk, IfOk, IfErr, IsErrOf};
 ghost use Rattle.std.specs.FinMap as map_of;
 ghost use Rattle.base_model.specs.Faults.{Rose};
 ghost use Rattle.disk_model.specs.Words.{TellsContents};
 ghost use Rattle.trie_model.specs.Maps.{Map};
 ghost use Rattle.mdb_journal.specs.Opening.{Untouched};
-ghost use Rattle.value_store.specs.Values.{Keeps, HasKeys, broken};
+ghost use Rattle.value_store.specs.PairSinks.{TakesAll};
+ghost use Rattle.value_store.specs.Values.{Keeps, HasKeys, broken, value_in};
 
-use crate::{ValueFault, ValueStore};
+use crate::{PairSink, Place, ValueFault, ValueStore};
 use disk_world::Disk;
+use mdb_journal::Journal;
 use std::alloc::Global;
 
 impl ValueStore {
@@ -36,12 +38,55 @@ impl ValueStore {
         let Some(place) = self.index.get(key) else {
             return Ok(None);
         };
-        let Ok(mut value) = vec![in alloc; 0; place.count as usize] else {
-            return Err(ValueFault::NoMemory);
-        };
-        let Ok(()) = self.journal.read(disk, place.start, &mut value) else {
-            return Err(ValueFault::Disk);
+        let value = match read_value(alloc, &mut self.journal, disk, place) {
+            Ok(value) => value,
+            Err(fault) => return Err(fault),
         };
         Ok(Some(value))
     }
+
+    /// Reads each value, in the order of the keys, and hands it on with its key.
+    pub fn each<D: Disk, P: PairSink>(
+        &mut self,
+        alloc: Global,
+        disk: &mut D,
+        pairs: &mut P,
+    ) -> Result<(), ValueFault>
+        requires works { self.old.journal.failed ≡ false }
+        ensures taken { TellsContents D.words.tells → (m : Map) → Keeps self.old m (D.words.seen disk.old) → OnOk result (TakesAll P.takes pairs.old (map_of.entries m) pairs.new) }
+        ensures fault { IfErr result (λ fault. (fault ≡ ValueFault.Disk) ⊎ (fault ≡ ValueFault.NoMemory)) }
+        ensures fails { IsErrOf result ValueFault.Disk → self.new ≡ broken self.old }
+        ensures stays { (IsErrOf result ValueFault.Disk → ⊥) → self.new ≡ self.old }
+        ensures untouched { Untouched (D.words.seen disk.old) (D.words.seen disk.new) (D.words.moments disk.old) (D.words.moments disk.new) }
+        ensures later { D.words.faults disk.old ≤ D.words.faults disk.new }
+        ensures disk { IsErrOf result ValueFault.Disk → Rose (D.words.faults disk.old) (D.words.faults disk.new) }
+    {
+        self.index.each(alloc, &mut self.journal, disk, pairs)
+    }
+}
+
+/// Reads the value at a place.
+pub(crate) fn read_value<D: Disk>(
+    alloc: Global,
+    journal: &mut Journal,
+    disk: &mut D,
+    place: Place,
+) -> Result<Vec<u8>, ValueFault>
+    requires works { journal.old.failed ≡ false }
+    requires within { place.start + place.count ≤ journal.old.end }
+    ensures value { TellsContents D.words.tells → IfOk result (λ value. value.items ≡ value_in (D.words.seen disk.old journal.old.file) place) }
+    ensures fault { IfErr result (λ fault. (fault ≡ ValueFault.Disk) ⊎ (fault ≡ ValueFault.NoMemory)) }
+    ensures fails { IsErrOf result ValueFault.Disk → journal.new ≡ record journal.old { failed = true } }
+    ensures stays { (IsErrOf result ValueFault.Disk → ⊥) → journal.new ≡ journal.old }
+    ensures untouched { Untouched (D.words.seen disk.old) (D.words.seen disk.new) (D.words.moments disk.old) (D.words.moments disk.new) }
+    ensures later { D.words.faults disk.old ≤ D.words.faults disk.new }
+    ensures disk { IsErrOf result ValueFault.Disk → Rose (D.words.faults disk.old) (D.words.faults disk.new) }
+{
+    let Ok(mut value) = vec![in alloc; 0; place.count as usize] else {
+        return Err(ValueFault::NoMemory);
+    };
+    let Ok(()) = journal.read(disk, place.start, &mut value) else {
+        return Err(ValueFault::Disk);
+    };
+    Ok(value)
 }

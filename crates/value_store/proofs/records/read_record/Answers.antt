@@ -1,11 +1,10 @@
-use Rattle.std.proofs.Common.{◌≡◌, ◌≤◌, List, ℕ, Ok, Err, length, refl, sym, ap, ◌∙◌, subst, arith}
+use Rattle.std.proofs.Common.{◌≡◌, ◌≤◌, List, ℕ, Err, length, refl, sym, ap, ◌∙◌, subst, arith}
 use Rattle.disk_model.specs.Files.{Files}
-use Rattle.store_model.specs.Record.{Record}
-use Rattle.mdb_journal.specs.Journal.{JournalState, Knows}
+use Rattle.mdb_journal.specs.Journal.{JournalState}
 use Rattle.trie_model.specs.Maps.{limits}
 use Rattle.batch_model.specs.Batch.{Outside, batch_of}
 use Rattle.value_store.specs.declared.fault.ValueFault.{ValueFault}
-use Rattle.value_store.specs.Reading.{Standing, BatchRead, Shows, RecordsFail, payload_at}
+use Rattle.value_store.specs.Reading.{BatchRead, Shows, RecordsFail, payload_at}
 use Rattle.value_store.proofs.RecordGates.{none_left, not_damaged, next_record, other_record, batch_record, wrong_record, end_inside, read_fails}
 use Rattle.value_store.proofs.records.read_record.Goals as goal
 

@@ -1,11 +1,8 @@
-use Rattle.std.proofs.Common.{◌≡◌, ℕ, List, refl, sym, ap, ◌∙◌, subst, arith}
+use Rattle.std.proofs.Common.{ℕ, List, refl, sym, ap, ◌∙◌, subst, arith}
 use Rattle.std.specs.FinMap as map_of
-use Rattle.std.specs.Prelude.{IfSome}
-use Rattle.disk_model.specs.Files.{Files}
-use Rattle.store_model.specs.Record.{Record}
-use Rattle.mdb_journal.specs.Journal.{JournalState, Knows}
-use Rattle.value_store.specs.Index.{Places, AreInFile, IsInFile}
-use Rattle.value_store.specs.Reading.{Standing, Found, GoesOn, RecordsFail}
+use Rattle.mdb_journal.specs.Journal.{JournalState}
+use Rattle.value_store.specs.Index.{Places, AreInFile}
+use Rattle.value_store.specs.Reading.{Standing, Found, RecordsFail}
 use Rattle.value_store.proofs.RecordGates.{at_first, none_in_file, still_knows, still_file}
 use Rattle.value_store.proofs.records.read_records.Goals as goal
 

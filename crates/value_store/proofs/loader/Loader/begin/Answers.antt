@@ -1,4 +1,4 @@
-use Rattle.std.proofs.Common.{◌≡◌, ◌≤◌, ◌+◌, min, length, Ok, sym, ap, ◌∙◌, subst, arith}
+use Rattle.std.proofs.Common.{◌≡◌, ◌≤◌, ◌+◌, min, length, sym, ap, ◌∙◌, subst, arith}
 use Rattle.mdb_base.specs.ReadNumbers.{seen}
 use Rattle.base_model.specs.ReadUvarint.{uvarint_at}
 use Rattle.value_store.specs.Pieces.{PieceState, IsPieceOf}

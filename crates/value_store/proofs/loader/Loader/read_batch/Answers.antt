@@ -1,9 +1,5 @@
-use Rattle.std.proofs.Common.{◌≡◌, ◌≤◌, ℕ, List, None, Err, length, sym, ap, ◌∙◌, subst, arith}
+use Rattle.std.proofs.Common.{◌≡◌, ℕ, List, None, Err, sym, ap, ◌∙◌, subst, arith}
 use Rattle.disk_model.specs.Files.{Files}
-use Rattle.disk_model.specs.Words.{TellsContents}
-use Rattle.trie_model.specs.Maps.{Map}
-use Rattle.base_model.specs.Fields.{Field}
-use Rattle.batch_model.specs.Batch.{BatchFault}
 use Rattle.mdb_journal.specs.Journal.{JournalState}
 use Rattle.value_store.specs.Index.{Places}
 use Rattle.value_store.specs.declared.loader.BatchTrouble.TheVariants.{Outside as outside}

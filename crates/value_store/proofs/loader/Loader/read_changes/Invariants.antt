@@ -3,7 +3,6 @@ use Rattle.base_model.specs.Fields.{Field}
 use Rattle.disk_model.specs.Words.{TellsContents}
 use Rattle.trie_model.specs.Maps.{Map}
 use Rattle.batch_model.specs.Batch.{BatchFault}
-use Rattle.store_model.specs.Header.{first_gate}
 use Rattle.mdb_journal.specs.Opening.{Untouched}
 use Rattle.value_store.specs.Index.{AreInFile}
 use Rattle.value_store.specs.Reading.{Midway}

@@ -1,6 +1,4 @@
-use Rattle.std.proofs.Common.{◌≡◌, Some, None, is_some, option_map, length, take, drop, sym, ap, ◌∙◌, arith}
-use Rattle.std.proofs.lemmas.List.{take_at}
-use Rattle.std.specs.FinMap.{entries}
+use Rattle.std.proofs.Common.{Some, is_some, option_map, sym, ap, ◌∙◌}
 use Rattle.value_store.specs.Values.{ValueState, value_in}
 use Rattle.value_store.proofs.KeptMaps.{kept_value, kept_key}
 use Rattle.value_store.proofs.store.ValueStore.get.Goals as goal
@@ -20,19 +18,11 @@ returns-in_default-clause-there g c = λ m has.
 pub returns-clause-value : goal.returns-clause-value
 returns-clause-value g c = λ told m keeps.
     let files = g.D.Disk.words.seen c.args.disk.now in
-    let file = c.args.self.now.journal.file in
     let place = c.in-Some.place in
     let same = ap (λ (s : ValueState). s.journal.file) c.self.view_is in
     let is = ap (λ (s : ValueState). s.index) (sym c.self.view_is) in
-    let new = c.read.new.into in
-    let count : length c.deref_mut.result.now ≡ place.count = omega (arith, c.deref_mut.ensures.len, c.in-Ok.ensures.len) in
-    let long : length new ≡ c.in-Ok.value.len = omega (arith, c.read.auto.into, c.deref_mut.ensures.len) in
-    let read : new ≡ take (length c.deref_mut.result.now) (drop place.start (files c.self.inside.journal.file)) = c.in-Ok-read.ensures.bytes told in
-    ap (λ v. Some v) (take_at new (drop (length new) c.in-Ok.value.items) c.in-Ok.value.len long
-    ∙ read
-    ∙ ap (λ n. take n (drop place.start (files c.self.inside.journal.file))) count
-    ∙ ap (λ f. value_in (files f) place) same)
-    ∙ ap (option_map (value_in (files file))) (sym c.in-Some.is ∙ c.get.ensures)
+    ap (λ v. Some v) (c.in-Ok.ensures.value told ∙ ap (λ f. value_in (files f) place) same)
+    ∙ ap (option_map (value_in (files c.args.self.now.journal.file))) (sym c.in-Some.is ∙ c.get.ensures)
     ∙ sym (kept_value c.args.self.now m files c.self.inside.index is keeps c.args.key.now)
 
 pub returns-clause-there : goal.returns-clause-there

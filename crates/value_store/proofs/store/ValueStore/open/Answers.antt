@@ -1,11 +1,8 @@
-use Rattle.std.proofs.Common.{◌≡◌, ℕ, List, refl, sym, ap, ◌∙◌, subst}
-use Rattle.disk_model.specs.Files.{Files}
+use Rattle.std.proofs.Common.{◌≡◌, ℕ, List, refl, sym, ◌∙◌, subst}
 use Rattle.disk_model.specs.Moments.{Moments, LeavesOnly}
-use Rattle.disk_model.proofs.Telling.{contents_too}
 use Rattle.bit_keys.specs.Branch.{width_of}
-use Rattle.trie_model.specs.Maps.{limits}
-use Rattle.store_model.specs.Journal.{Hold, Stands}
-use Rattle.mdb_journal.specs.Journal.{JournalState, Knows}
+use Rattle.store_model.specs.Journal.{Hold}
+use Rattle.mdb_journal.specs.Journal.{JournalState}
 use Rattle.value_store.specs.Index.{AreInFile}
 use Rattle.value_store.specs.Reading.{Found}
 use Rattle.value_store.proofs.RecordGates.{still_knows, still_file}

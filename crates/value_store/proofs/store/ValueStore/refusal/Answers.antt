@@ -1,4 +1,4 @@
-use Rattle.std.proofs.Common.{◌≡◌, false, sym, ap, ◌∙◌, arith}
+use Rattle.std.proofs.Common.{false, sym, ap, ◌∙◌, arith}
 use Rattle.value_store.specs.Values.{ValueState}
 use Rattle.value_store.proofs.WrittenBatches.{keys_counted}
 use Rattle.value_store.proofs.store.ValueStore.refusal.Goals as goal

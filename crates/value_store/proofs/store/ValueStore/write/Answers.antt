@@ -1,14 +1,13 @@
-use Rattle.std.proofs.Common.{◌≡◌, ◌+◌, ◌≤◌, ℕ, List, None, length, refl, sym, ap, ◌∙◌, subst, arith, length-append}
+use Rattle.std.proofs.Common.{◌≡◌, ◌+◌, List, None, length, refl, sym, ap, ◌∙◌, subst, arith, length-append}
 use Rattle.std.specs.FinMap.{entries}
 use Rattle.std.specs.List.{flat_map}
 use Rattle.base_model.specs.Uvarint.{uvarint}
 use Rattle.disk_model.specs.Moments.{Meanwhile}
-use Rattle.disk_model.proofs.Telling.{contents_too}
 use Rattle.batch_model.specs.Batch.{Change, AreRising, batch_form, change_form, after_batch}
 use Rattle.mdb_journal.specs.Journal.{JournalState, payload_in}
 use Rattle.value_store.specs.Values.{ValueState, Keeps, broken}
 use Rattle.value_store.specs.Index.{Places, AreInFile}
-use Rattle.value_store.specs.Placing.{laid_all, with_room, HasRoom}
+use Rattle.value_store.specs.Placing.{laid_all, HasRoom}
 use Rattle.value_store.specs.Writes.{StandEither}
 use Rattle.value_store.proofs.IndexEntries.{same_places}
 use Rattle.value_store.proofs.PlacesAfter.{has_room, laid_all-with_room}
