@@ -1,0 +1,6 @@
+pub mod Prefixes
+pub mod States
+pub mod Found
+pub mod Commits
+pub mod DeadViews
+pub mod Numbers

@@ -1,0 +1,4 @@
+pub mod Forest
+pub mod Calls
+pub mod Maps
+pub mod Laws

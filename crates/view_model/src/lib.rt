@@ -1,0 +1,32 @@
+//! Words for views: proposed changes that stand on the store or on each other, their states, and what calls do to them.
+//!
+//! It stands on `base_model`, `trie_model` and `batch_model`, and holds no code: each function is empty, and its
+//! contract is a law of the definitions in `specs/`. Nothing here fails, and nothing here takes memory.
+#![tactic(auto)]
+
+ghost use Rattle.view_model.specs.Laws.{CommitsKeepWhatStandsOn, CommitsEndTheOthers, NextIsTold, DeadViewsStay, NumbersAreGivenOnce};
+
+/// After a commit exactly the views stay live that stand on the one that was committed.
+pub fn commits_keep_what_stands_on()
+    ensures { CommitsKeepWhatStandsOn }
+{}
+
+/// A commit makes every other live view invalid, and the view itself is committed.
+pub fn commits_end_the_others()
+    ensures { CommitsEndTheOthers }
+{}
+
+/// The test and the condition of a commit are one.
+pub fn next_is_told()
+    ensures { NextIsTold }
+{}
+
+/// A view that is no longer live stays what it is.
+pub fn dead_views_stay()
+    ensures { DeadViewsStay }
+{}
+
+/// The numbers that are given are 1, 2, 3 and so on.
+pub fn numbers_are_given_once()
+    ensures { NumbersAreGivenOnce }
+{}
