@@ -1,12 +1,13 @@
 -- What a commit makes of the states of views.
-use Rattle.std.proofs.Common.{◌≡◌, ◌↔◌, ℕ, true, false, List, [], ◌∷◌, ◌++◌, refl, sym, ap, ◌∙◌, subst, lit<, Option, Some, None, option_map, unwrap_or}
+use Rattle.std.proofs.Common.{◌≡◌, ◌↔◌, ℕ, true, false, List, [], ◌∷◌, ◌++◌, refl, sym, ap, ◌∙◌, subst, lit<, Option, Some, None, option_map, unwrap_or, length, arith, length-append, ◌+◌}
 use Rattle.std.proofs.lemmas.Bool.Decides.{Decides-eqb}
+use Rattle.std.proofs.lemmas.List.{same_from_push}
 use Rattle.std.proofs.lemmas.Option.{same_Some}
 use Rattle.std.proofs.lemmas.Slice.Eq.{slice_eq-Decides}
 use Rattle.view_model.specs.Forest.{View, Forest, Live, Committed, Invalid, path, is_proper_prefix, is_among, state_of, view_of, state, path_of}
 use Rattle.view_model.specs.Calls.{committed, kept_by, is_next}
-use Rattle.view_model.specs.Laws.{CommitsKeepWhatStandsOn, CommitsEndTheOthers, NextIsTold}
-use Rattle.view_model.proofs.Prefixes.{proper_parts, proper_not_itself, proper_shorter, not_among_more, not_among_less, among_last}
+use Rattle.view_model.specs.Laws.{CommitsKeepWhatStandsOn, CommitsEndTheOthers, NextIsTold, OneNumberMore}
+use Rattle.view_model.proofs.Prefixes.{proper_parts, proper_not_itself, proper_shorter, not_among_more, not_among_less, among_last, after_prefix}
 use Rattle.view_model.proofs.States.{LiveIn, live_parts, live_from, committed_from, invalid_from}
 use Rattle.view_model.proofs.Found.{found_number, found-map}
 
@@ -85,3 +86,22 @@ commits_end_the_others f n may = (
 
 pub next_is_told : NextIsTold
 next_is_told f n = slice_eq-Decides Decides-eqb (path_of f n) (f.store ++ n ∷ []) (is_next f n) refl
+
+-- ---- by the length of the path
+
+one_more : (f : Forest) (n : ℕ) (o : Option View) → view_of f n ≡ o → option_map (state_of f.store) o ≡ Some Live → length (unwrap_or (option_map path o) []) ≡ length f.store + 1 → unwrap_or (option_map path o) [] ≡ f.store ++ n ∷ []
+one_more f n None e h l = absurd (cc)
+one_more f n (Some v) e h l =
+    let ahead = (proper_parts f.store (path v) (live_parts f.store v (same_Some _ _ h)).ahead).0 in
+    go (after_prefix f.store (path v) ahead)
+  where
+    go : (rest : List ℕ) × (path v ≡ f.store ++ rest) → path v ≡ f.store ++ n ∷ []
+    go (rest, is) = alone rest is (omega (arith, ap length is, length-append f.store rest, l))
+      where
+        alone : (rest : List ℕ) → path v ≡ f.store ++ rest → length rest ≡ 1 → path v ≡ f.store ++ n ∷ []
+        alone [] is one = absurd (omega (arith, one))
+        alone (x ∷ []) is one = is ∙ ap (λ k. f.store ++ k ∷ []) (sym (same_from_push v.parent f.store v.number x is).1 ∙ found_number n f.views v e)
+        alone (x ∷ y ∷ more) is one = absurd (omega (arith, one))
+
+pub one_number_more : OneNumberMore
+one_number_more f n h l = (h, one_more f n (view_of f n) refl h l)

@@ -4,3 +4,4 @@ pub mod Found
 pub mod Commits
 pub mod DeadViews
 pub mod Numbers
+pub mod Limits

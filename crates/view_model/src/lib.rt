@@ -4,7 +4,7 @@
 //! contract is a law of the definitions in `specs/`. Nothing here fails, and nothing here takes memory.
 #![tactic(auto)]
 
-ghost use Rattle.view_model.specs.Laws.{CommitsKeepWhatStandsOn, CommitsEndTheOthers, NextIsTold, DeadViewsStay, NumbersAreGivenOnce};
+ghost use Rattle.view_model.specs.Laws.{CommitsKeepWhatStandsOn, CommitsEndTheOthers, NextIsTold, OneNumberMore, DeadViewsStay, LimitsHold, NumbersAreGivenOnce};
 
 /// After a commit exactly the views stay live that stand on the one that was committed.
 pub fn commits_keep_what_stands_on()
@@ -21,9 +21,19 @@ pub fn next_is_told()
     ensures { NextIsTold }
 {}
 
+/// A live view whose path is one number longer than that of the store may be committed.
+pub fn one_number_more()
+    ensures { OneNumberMore }
+{}
+
 /// A view that is no longer live stays what it is.
 pub fn dead_views_stay()
     ensures { DeadViewsStay }
+{}
+
+/// After any list of calls no limit is passed.
+pub fn limits_hold()
+    ensures { LimitsHold }
 {}
 
 /// The numbers that are given are 1, 2, 3 and so on.
