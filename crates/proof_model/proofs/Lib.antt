@@ -1,0 +1,5 @@
+pub mod WireFields
+pub mod WireNodes
+mod WirePoints
+mod Takings
+mod WorkedPoints
