@@ -7,3 +7,4 @@ pub mod Shared
 pub mod Slots
 pub mod Tokens
 pub mod Windows
+pub mod Bounds

@@ -1,3 +1,4 @@
 pub mod Branch
 pub mod Order
 pub mod Keys
+pub mod Ranges

@@ -1,4 +1,4 @@
-ghost use Rattle.std.specs.Prelude.{◌≡◌, ◌+◌, ◌*◌, ◌/◌, ◌%◌, ℕ, ◌<◌, ◌≤◌, length, take, IfOk, nat_eq, IsTrue, ◌↔◌, SomeIff, ◌==◌, slice_index, drop, ◌∷◌, [], ◌++◌, refl};
+ghost use Rattle.std.specs.Prelude.{◌≡◌, ◌+◌, ◌*◌, ◌/◌, ◌%◌, ◌^◌, ℕ, ◌<◌, ◌≤◌, length, take, IfOk, nat_eq, IsTrue, ◌↔◌, SomeIff, ◌==◌, slice_index, drop, ◌∷◌, [], ◌++◌, refl};
 ghost use Rattle.std.proofs.Common.{ap};
 ghost use Rattle.std.specs.Cmp.{partial_equiv_from_equiv};
 ghost use Rattle.std.specs.Hash as fed;
@@ -6,6 +6,7 @@ ghost use Rattle.std.specs.Ordering.{as_partial_cmp};
 ghost use Rattle.trie_model.proofs.Prefixes.{same_key-is};
 ghost use Rattle.bit_keys.specs.Order.{same_key_equiv, same_key_ties, key_cmp_total, key_po};
 ghost use Rattle.std.specs.List.{common_prefix_len};
+ghost use Rattle.base_model.specs.Bytes.{AreBytes};
 ghost use Rattle.trie_model.specs.Bits.{bits_of, bits_of_bytes, packed, common_prefix, is_prefix, key_cmp, same_key, whole_tokens, token_at};
 ghost use Rattle.bit_keys.specs.Branch.{width_of, factor_of};
 ghost use Rattle.bit_keys.specs.Keys.{IsFilledUp};
@@ -68,6 +69,16 @@ impl Key {
         };
         let bytes = Vec::from_slice(alloc, bytes)?;
         Ok(Key { bits, bytes })
+    }
+
+    /// The key of whole bytes, which are few enough that a `u64` counts their bits.
+    pub(crate) fn from_vec(bytes: Vec<u8>) -> Key
+        requires { length bytes.items < 2 ^ 32 }
+        ensures key { result ≡ bits_of_bytes bytes.items }
+        ensures bytes { AreBytes bytes.items }
+    {
+        let bits = 8 * bytes.len() as u64;
+        Key { bits, bytes }
     }
 
     /// The key of so many bits of these bytes, which are to be as many as the bits need and have

@@ -1,3 +1,5 @@
+mod ranges;
+
 use crate::branch::Branch;
 use crate::key::Key;
 use crate::memory::NoMemory;
