@@ -1,1 +1,6 @@
 mod Pieces
+mod Ordered
+mod NodeKeys
+mod SlotGroups
+mod Turns
+mod RootRuns

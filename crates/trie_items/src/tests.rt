@@ -1,3 +1,5 @@
+mod items;
+
 ghost use Rattle.std.specs.Prelude.{◌≡◌, ◌<◌};
 
 use crate::{ChildId, Digest, Steps, id_of, node_string, value_digest};
