@@ -53,9 +53,24 @@ entry_in_file end index all done rest k p is sorted whole within =
 abbrev pub pairs_of : List ℕ → List Entry → List (List ℕ × List ℕ)
 pairs_of bytes es = map (pair_in bytes) (map placed es)
 
-takes_one_more : {S : Type 0} (takes : S → List ℕ → List ℕ → S → Type 0) (bytes : List ℕ) (s : S) (done : List Entry) (e : Entry) (t u : S) → TakesAll takes s (pairs_of bytes done) t → takes t (pair_in bytes (placed e)).0 (pair_in bytes (placed e)).1 u → TakesAll takes s (pairs_of bytes (done ++ e ∷ [])) u
-takes_one_more {S} takes bytes s [] e t u h g = (u, subst (λ (x : S). takes x (pair_in bytes (placed e)).0 (pair_in bytes (placed e)).1 u) h g, refl)
-takes_one_more takes bytes s (x ∷ done) e t u h g = (h.0, h.1, takes_one_more takes bytes h.0 done e t u h.2 g)
+-- a pair is taken behind others
+takes_last : {S : Type 0} (takes : S → List ℕ → List ℕ → S → Type 0) (s : S) (es : List (List ℕ × List ℕ)) (e : List ℕ × List ℕ) (t u : S) → TakesAll takes s es t → takes t e.0 e.1 u → TakesAll takes s (es ++ e ∷ []) u
+takes_last {S} takes s [] e t u h g = (u, subst (λ (x : S). takes x e.0 e.1 u) h g, refl)
+takes_last takes s (x ∷ es) e t u h g = (h.0, h.1, takes_last takes h.0 es e t u h.2 g)
+
+pairs-split : (bytes : List ℕ) (done : List Entry) (e : Entry) → pairs_of bytes (done ++ e ∷ []) ≡ pairs_of bytes done ++ pair_in bytes (placed e) ∷ []
+pairs-split bytes [] e = refl
+pairs-split bytes (x ∷ done) e = ap (λ (es : List (List ℕ × List ℕ)). pair_in bytes (placed x) ∷ es) (pairs-split bytes done e)
+
+-- some pairs were taken, whatever was read
+abbrev pub TakesSome : {S : Type 0} → (S → List ℕ → List ℕ → S → Type 0) → S → S → Type 0
+TakesSome takes s t = (es : List (List ℕ × List ℕ)) × TakesAll takes s es t
+
+pub takes_none : {S : Type 0} (takes : S → List ℕ → List ℕ → S → Type 0) (s : S) → TakesSome takes s s
+takes_none takes s = ([], refl)
+
+pub takes_more : {S : Type 0} (takes : S → List ℕ → List ℕ → S → Type 0) (s : S) (key value : List ℕ) (t u : S) → TakesSome takes s t → takes t key value u → TakesSome takes s u
+takes_more takes s key value t u h g = (h.0 ++ (key, value) ∷ [], takes_last takes s h.0 (key, value) t u h.1 g)
 
 -- of all entries these are left
 pub record Left (all rest : List Entry) : Type 0 where
@@ -82,7 +97,8 @@ module _ {S : Type 0} (takes : S → List ℕ → List ℕ → S → Type 0) (by
   one_handed e rest t u value h is took = record {
     done = h.done ++ e ∷ [];
     whole = append_assoc h.done (e ∷ []) rest ∙ h.whole;
-    taken = takes_one_more takes bytes s h.done e t u h.taken (subst (λ (v : List ℕ). takes t e.0.items v u) is took);
+    taken = subst (λ (es : List (List ℕ × List ℕ)). TakesAll takes s es u) (sym (pairs-split bytes h.done e))
+        (takes_last takes s (pairs_of bytes h.done) (pair_in bytes (placed e)) t u h.taken (subst (λ (v : List ℕ). takes t e.0.items v u) is took));
   }
 
   pub all_handed : (index : Places) (t : S) → places_of all ≡ index → AreInOrder all → Handed takes bytes all [] s t → TakesAll takes s (map (pair_in bytes) (entries index)) t

@@ -156,6 +156,7 @@ impl Index {
         requires works { journal.old.failed ≡ false }
         requires within { AreInFile journal.old.end self.now }
         ensures taken { TellsContents D.words.tells → OnOk result (TakesAll P.takes pairs.old (map (pair_in (D.words.seen disk.old journal.old.file)) (map_of.entries self.now)) pairs.new) }
+        ensures some { OnOk result ((es : List (List ℕ × List ℕ)) × TakesAll P.takes pairs.old es pairs.new) }
         ensures fault { IfErr result (λ fault. (fault ≡ ValueFault.Disk) ⊎ (fault ≡ ValueFault.NoMemory)) }
         ensures fails { IsErrOf result ValueFault.Disk → journal.new ≡ record journal.old { failed = true } }
         ensures stays { (IsErrOf result ValueFault.Disk → ⊥) → journal.new ≡ journal.old }

@@ -3,7 +3,7 @@ use Rattle.disk_model.specs.Files.{Files}
 use Rattle.mdb_journal.specs.Journal.{JournalState}
 use Rattle.value_store.specs.Values.{value_in}
 use Rattle.value_store.specs.Index.{places_of, AreInOrder, AreInFile}
-use Rattle.value_store.proofs.PairsTaken.{Entry, Left, Handed, entry_in_file, none_left_out, one_less, none_handed, one_handed, all_handed}
+use Rattle.value_store.proofs.PairsTaken.{Entry, Left, Handed, entry_in_file, none_left_out, one_less, none_handed, one_handed, all_handed, takes_none, takes_more}
 use Rattle.value_store.proofs.index.Index.each.Goals as goal
 
 pub loop-key-init : goal.loop-key-init
@@ -11,6 +11,7 @@ loop-key-init g c =
     let w = g.D.Disk.words in record {
       left = none_left_out c.into_iter-key-iterator.result;
       handed = λ told. none_handed g.P.PairSink.takes (w.seen c.args.disk.now c.args.journal.now.file) c.into_iter-key-iterator.result c.args.pairs.now;
+      some = takes_none g.P.PairSink.takes c.args.pairs.now;
       journal = refl;
       untouched = record { seen = refl; images = refl };
       later = omega arith;
@@ -42,6 +43,7 @@ loop-key-preserved g c =
           (subst (λ (es : List Entry). Handed g.P.PairSink.takes bytes all es c.args.pairs.now c.loop-key.pairs) c.in-Some.ensures.steps (k.handed told))
           (e.value told ∙ ap (λ (f : Files). value_in (f c.loop-key.journal.file) entry.1) k.untouched.seen ∙ ap (λ (j : JournalState). value_in (w.seen c.args.disk.now j.file) entry.1) k.journal)
           (subst (λ (key : List ℕ). g.P.PairSink.takes c.loop-key.pairs key c.in-Ok.value.items c.take.new.self) c.deref.ensures.value (subst (λ (value : List ℕ). g.P.PairSink.takes c.loop-key.pairs c.deref.result.now value c.take.new.self) c.deref-in-loop-key.ensures.value c.in-Ok-take.ensures));
+      some = takes_more g.P.PairSink.takes c.args.pairs.now c.deref.result.now c.deref-in-loop-key.result.now c.loop-key.pairs c.take.new.self k.some c.in-Ok-take.ensures;
       journal = e.stays (λ no. let none : ⊥ = cc no in none) ∙ k.journal;
       untouched = record { seen = c.read_value.ensures.untouched.seen ∙ k.untouched.seen; images = c.read_value.ensures.untouched.images ∙ k.untouched.images };
       later = omega (arith, k.later, c.read_value.ensures.later);
