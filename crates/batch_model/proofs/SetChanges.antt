@@ -57,7 +57,7 @@ set_changes_keep_batches l cs c p h r = (kept l cs c p h, rising None cs c refl 
 -- ---- what it makes of a map
 
 -- the answer at a key after one change
-get_changed : (m : Map) (k : List ℕ) (v : Option (List ℕ)) (q : List ℕ) → get (put_or_removed m k v) q ≡ cond (eq_by_cmp bytes_cmp q k) v (get m q)
+pub get_changed : (m : Map) (k : List ℕ) (v : Option (List ℕ)) (q : List ℕ) → get (put_or_removed m k v) q ≡ cond (eq_by_cmp bytes_cmp q k) v (get m q)
 get_changed m k None q = get-remove nat_list_cmp_total m k q
 get_changed m k (Some v) q = get-insert nat_list_cmp_total m k v q
 

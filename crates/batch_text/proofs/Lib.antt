@@ -5,4 +5,5 @@ pub mod LinesAhead
 pub mod OverlongLines
 pub mod DigitTable
 pub mod HexWords
+pub mod NumberWords
 pub mod SeenLine

@@ -9,20 +9,10 @@ use Rattle.batch_text.specs.SeenLine.{IsFaultOf}
 
 -- a fault of one step is the fault of the steps together
 pub fault_goes_on : {A B : Type 0} (kind : ReadKind) (meant : Result A LineKind) (f : A → Result B LineKind) → IsFaultOf kind meant → IsFaultOf kind (meant >>= f)
-fault_goes_on read_kind.TooLong meant f is = rw is refl
-fault_goes_on read_kind.Word meant f is = rw is refl
-fault_goes_on read_kind.Count meant f is = rw is refl
-fault_goes_on read_kind.Hex meant f is = rw is refl
-fault_goes_on read_kind.LongKey meant f is = rw is refl
-fault_goes_on read_kind.LongValue meant f is = rw is refl
 fault_goes_on read_kind.NoMemory meant f is = tt
+fault_goes_on other meant f is = rw is refl
 
 -- where a fault is told that is not want of memory, nothing is understood
 pub not_understood : {A : Type 0} (kind : ReadKind) (meant : Result A LineKind) → IsFaultOf kind meant → (kind ≡ read_kind.NoMemory → ⊥) → is_ok meant ≡ false
-not_understood read_kind.TooLong meant is other = rw is refl
-not_understood read_kind.Word meant is other = rw is refl
-not_understood read_kind.Count meant is other = rw is refl
-not_understood read_kind.Hex meant is other = rw is refl
-not_understood read_kind.LongKey meant is other = rw is refl
-not_understood read_kind.LongValue meant is other = rw is refl
 not_understood read_kind.NoMemory meant is other = absurd (other refl)
+not_understood kind meant is other = rw is refl

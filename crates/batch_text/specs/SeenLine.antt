@@ -5,19 +5,32 @@ use Rattle.batch_text.specs.declared.line.InputKind.TheVariants.{Batch as ReadBa
 use Rattle.batch_text.specs.declared.line.LineKind.{LineKind as ReadKind}
 use Rattle.batch_text.specs.declared.line.LineKind.TheVariants as read_kind
 use Rattle.batch_text.specs.declared.line.Line.{Line as ReadLine}
-use Rattle.batch_text.specs.declared.line.Line.TheVariants.{Skip as ReadSkip, Put as ReadPut, Del as ReadDel, Commit as ReadCommit}
-use Rattle.text_model.specs.LineKind.{LineKind, TooLong, Word, Count, Hex, LongKey, LongValue}
-use Rattle.text_model.specs.ReadLine.{InputKind, Batch, Script, Line, Skip, Put, Del, Commit}
+use Rattle.batch_text.specs.declared.line.Line.TheVariants as read
+use Rattle.batch_text.specs.declared.number_words.PlaceWord.{PlaceWord as ReadPlace}
+use Rattle.batch_text.specs.declared.number_words.PlaceWord.TheVariants as read_place
+use Rattle.text_model.specs.LineKind.{LineKind, TooLong, Word, Count, Hex, LongKey, LongValue, Number, Place}
+use Rattle.text_model.specs.ReadLine.{InputKind, Batch, Script, Line, Skip, Put, Del, Commit, View, Take, Close, State, Get, Root}
+use Rattle.text_model.specs.Words.{PlaceWord, Db, View as OfView}
 
 abbrev pub seen_input : ReadInput → InputKind
 seen_input ReadBatch = Batch
 seen_input ReadScript = Script
 
+abbrev pub seen_place : ReadPlace → PlaceWord
+seen_place read_place.Db = Db
+seen_place (read_place.View number) = OfView number
+
 abbrev pub seen_line : ReadLine → Line
-seen_line ReadSkip = Skip
-seen_line (ReadPut key value) = Put key.items value.items
-seen_line (ReadDel key) = Del key.items
-seen_line ReadCommit = Commit
+seen_line read.Skip = Skip
+seen_line (read.Put key value) = Put key.items value.items
+seen_line (read.Del key) = Del key.items
+seen_line read.Commit = Commit
+seen_line (read.View place) = View (seen_place place)
+seen_line (read.Take number) = Take number
+seen_line (read.Close number) = Close number
+seen_line (read.State number) = State number
+seen_line (read.Get place key) = Get (seen_place place) key.items
+seen_line (read.Root place) = Root (seen_place place)
 
 -- the kind of a fault, or none for want of memory
 abbrev pub seen_kind : ReadKind → Option LineKind
@@ -27,6 +40,8 @@ seen_kind read_kind.Count = Some Count
 seen_kind read_kind.Hex = Some Hex
 seen_kind read_kind.LongKey = Some LongKey
 seen_kind read_kind.LongValue = Some LongValue
+seen_kind read_kind.Number = Some Number
+seen_kind read_kind.Place = Some Place
 seen_kind read_kind.NoMemory = None
 
 -- the fault is the one that is meant, or memory ran out

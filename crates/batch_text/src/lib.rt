@@ -1,5 +1,5 @@
 //! Lines of text: what a line asks for, or why it is not understood, and a reader that gives the
-//! lines of a source one after another. A key alone can be read of a word too.
+//! lines of a source one after another. A key or a number alone can be read of a word too.
 //!
 //! It stands on `mdb_base` and on the words of `text_model`. A `LineFault` says which line is not
 //! understood, and why; a `ReaderFault` says why no line is given. Which lines an input may have is
@@ -9,9 +9,11 @@
 mod digits;
 mod hex_words;
 mod line;
+mod number_words;
 mod reader;
 mod words;
 
 pub use hex_words::{KeyWord, read_key_word};
 pub use line::{InputKind, KeyBytes, Line, LineFault, LineKind, read_line};
+pub use number_words::{PlaceWord, read_number_word};
 pub use reader::{LineReader, ReaderFault};

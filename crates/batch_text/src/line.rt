@@ -1,10 +1,11 @@
 // What a line asks for, read from its bytes.
-ghost use Rattle.std.specs.Prelude.{◌≡◌, IfOk, IfErr, Ok};
-ghost use Rattle.text_model.specs.ReadLine.{put_words, del_words, batch_words, commit_words, script_words, line_of_words, read_line as line_of};
-ghost use Rattle.text_model.specs.Words.{words_of};
-ghost use Rattle.batch_text.specs.SeenLine.{seen_input, seen_line, IsFaultOf, IsRead};
+ghost use Rattle.std.specs.Prelude.{◌≡◌, ℕ, IfOk, IfErr, Ok};
+ghost use Rattle.text_model.specs.ReadLine.{Line as LineOf, one_word as words_of_one, two_words as words_of_two, put_line, del_line, number_line, place_line, get_line, commit_words, script_words, line_of_words, read_line as line_of};
+ghost use Rattle.text_model.specs.Words.{PlaceWord as PlaceOf, words_of};
+ghost use Rattle.batch_text.specs.SeenLine.{seen_input, seen_place, seen_line, IsFaultOf, IsRead};
 
 use crate::hex_words::{read_key, read_value};
+use crate::number_words::{PlaceWord, read_number, read_place};
 use crate::words::{next_word, only_word, two_words};
 use smallvec::SmallVec;
 use std::alloc::Global;
@@ -20,11 +21,11 @@ pub type KeyBytes = SmallVec<u8, 32>;
 pub enum InputKind {
     /// `put KEY VALUE` and `del KEY`.
     Batch,
-    /// These, and `commit`.
+    /// These, `commit`, `view PLACE`, `take NUMBER`, `close NUMBER`, `state NUMBER`, `get PLACE KEY` and `root PLACE`.
     Script,
 }
 
-/// Why a line is not understood: the first of these in their order, of words the leftmost.
+/// Why a line is not understood: the first of these down to `Count`, and then that of the leftmost word.
 #[derive(Clone, Copy, Debug, PartialEq, Eq)]
 pub enum LineKind {
     /// It has more than 20,000,000 bytes.
@@ -39,6 +40,10 @@ pub enum LineKind {
     LongKey,
     /// A value has more than 262,144 bytes.
     LongValue,
+    /// A word that stands for the number of a view is no decimal number of at most 64 bits.
+    Number,
+    /// A word that stands for the store or a view is neither `db` nor such a number.
+    Place,
     /// There was no memory.
     NoMemory,
 }
@@ -63,6 +68,18 @@ pub enum Line {
     Del { key: KeyBytes },
     /// That the pending batch is committed: the changes of the lines before it.
     Commit,
+    /// That a view of the pending batch is made, on the store or on a view.
+    View { place: PlaceWord },
+    /// That the view of this number is committed.
+    Take { number: u64 },
+    /// That the view of this number is closed.
+    Close { number: u64 },
+    /// How the view of this number stands.
+    State { number: u64 },
+    /// The value at a key, of the store or of a view.
+    Get { place: PlaceWord, key: KeyBytes },
+    /// The root, of the store or of a view.
+    Root { place: PlaceWord },
 }
 
 /// Reads the line of this number in an input of this kind.
@@ -94,38 +111,77 @@ fn read_bytes(alloc: Global, line: &[u8], kind: InputKind) -> Result<Line, LineK
     read_words(alloc, line, kind)
 }
 
-// A line by its words.
+// A line by its words. Those that change a map come first, since most lines do.
 fn read_words(alloc: Global, line: &[u8], kind: InputKind) -> Result<Line, LineKind>
     ensures { IsRead seen_line result (line_of_words (seen_input kind) (words_of line.now)) }
 {
     let Some((command, rest)) = next_word(line) else {
         return Ok(Line::Skip);
     };
+    if command == b"put".as_slice() {
+        return read_put(alloc, rest);
+    }
+    if command == b"del".as_slice() {
+        return read_del(alloc, rest);
+    }
     match kind {
-        InputKind::Batch => read_change(alloc, command, rest),
+        InputKind::Batch => Err(LineKind::Word),
         InputKind::Script => read_script(alloc, command, rest),
     }
 }
 
-// A line of a script.
+// What follows `put`.
+fn read_put(alloc: Global, rest: &[u8]) -> Result<Line, LineKind>
+    ensures { IsRead seen_line result (words_of_two put_line (words_of rest.now)) }
+{
+    let Some((key, value)) = two_words(rest) else {
+        return Err(LineKind::Count);
+    };
+    let key = read_key(alloc, key)?;
+    let value = read_value(alloc, value)?;
+    Ok(Line::Put { key, value })
+}
+
+// What follows `del`.
+fn read_del(alloc: Global, rest: &[u8]) -> Result<Line, LineKind>
+    ensures { IsRead seen_line result (words_of_one del_line (words_of rest.now)) }
+{
+    let Some(key) = only_word(rest) else {
+        return Err(LineKind::Count);
+    };
+    let key = read_key(alloc, key)?;
+    Ok(Line::Del { key })
+}
+
+// A line that only a script has.
 fn read_script(alloc: Global, command: &[u8], rest: &[u8]) -> Result<Line, LineKind>
     ensures { IsRead seen_line result (script_words command.now (words_of rest.now)) }
 {
     if command == b"commit".as_slice() {
         return read_commit(rest);
     }
-    read_change(alloc, command, rest)
-}
-
-// A line that changes a map.
-fn read_change(alloc: Global, command: &[u8], rest: &[u8]) -> Result<Line, LineKind>
-    ensures { IsRead seen_line result (batch_words command.now (words_of rest.now)) }
-{
-    if command == b"put".as_slice() {
-        return read_put(alloc, rest);
+    if command == b"view".as_slice() {
+        let place = only_place(rest)?;
+        return Ok(Line::View { place });
     }
-    if command == b"del".as_slice() {
-        return read_del(alloc, rest);
+    if command == b"take".as_slice() {
+        let number = only_number(rest)?;
+        return Ok(Line::Take { number });
+    }
+    if command == b"close".as_slice() {
+        let number = only_number(rest)?;
+        return Ok(Line::Close { number });
+    }
+    if command == b"state".as_slice() {
+        let number = only_number(rest)?;
+        return Ok(Line::State { number });
+    }
+    if command == b"get".as_slice() {
+        return read_get(alloc, rest);
+    }
+    if command == b"root".as_slice() {
+        let place = only_place(rest)?;
+        return Ok(Line::Root { place });
     }
     Err(LineKind::Word)
 }
@@ -140,27 +196,36 @@ fn read_commit(rest: &[u8]) -> Result<Line, LineKind>
     }
 }
 
-// What follows `put`.
-fn read_put(alloc: Global, rest: &[u8]) -> Result<Line, LineKind>
-    ensures { IsRead seen_line result (put_words (words_of rest.now)) }
+// The number of a view, with nothing behind it, whatever a line asks of that view.
+fn only_number(rest: &[u8]) -> Result<u64, LineKind>
+    ensures { (line : ℕ → LineOf) → IsRead line result (words_of_one (number_line line) (words_of rest.now)) }
 {
-    let Some((key, value)) = two_words(rest) else {
+    let Some(number) = only_word(rest) else {
         return Err(LineKind::Count);
     };
-    let key = read_key(alloc, key)?;
-    let value = read_value(alloc, value)?;
-    Ok(Line::Put { key, value })
+    read_number(number)
 }
 
-// What follows `del`.
-fn read_del(alloc: Global, rest: &[u8]) -> Result<Line, LineKind>
-    ensures { IsRead seen_line result (del_words (words_of rest.now)) }
+// The store or a view, with nothing behind it, whatever a line asks of it.
+fn only_place(rest: &[u8]) -> Result<PlaceWord, LineKind>
+    ensures { (line : PlaceOf → LineOf) → IsRead (λ place. line (seen_place place)) result (words_of_one (place_line line) (words_of rest.now)) }
 {
-    let Some(key) = only_word(rest) else {
+    let Some(place) = only_word(rest) else {
         return Err(LineKind::Count);
     };
+    read_place(place)
+}
+
+// What follows `get`.
+fn read_get(alloc: Global, rest: &[u8]) -> Result<Line, LineKind>
+    ensures { IsRead seen_line result (words_of_two get_line (words_of rest.now)) }
+{
+    let Some((place, key)) = two_words(rest) else {
+        return Err(LineKind::Count);
+    };
+    let place = read_place(place)?;
     let key = read_key(alloc, key)?;
-    Ok(Line::Del { key })
+    Ok(Line::Get { place, key })
 }
 
 #[cfg(test)]

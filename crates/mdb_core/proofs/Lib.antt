@@ -5,3 +5,7 @@ pub mod LaidChanges
 pub mod CountedKeys
 pub mod KeptStores
 pub mod OpenedStores
+pub mod RootsByDigests
+pub mod StoresKept
+pub mod Refusals
+pub mod BatchLookups

@@ -2,7 +2,8 @@
 use Rattle.std.proofs.Common.{◌≡◌, ℕ, Bool, true, false, not, cond, List, [], ◌∷◌, map, refl, sym, ap, ◌∙◌, subst, Ordering, Less, Equal, Greater}
 use Rattle.std.specs.Ordering.{is_eq}
 use Rattle.std.specs.List.{AllByRecursion}
-use Rattle.std.specs.FinMap.{insert, remove, entries, entries-insert}
+use Rattle.std.specs.FinMap.{empty, insert, remove, entries, entries-insert, len-entries, len-empty}
+use Rattle.std.proofs.lemmas.List.{nil_from_length}
 use Rattle.std.specs.FinMap.Entries.{put, by_order, where_key}
 use Rattle.std.specs.Map.{remove_entry}
 use Rattle.std.specs.BTreeMap.{is_at}
@@ -14,6 +15,7 @@ use Rattle.trie_model.proofs.Entries.{tied_equal, IsAscending, entries-IsAscendi
 use Rattle.trie_model.proofs.EntriesRemoved.{other_key, entries-remove}
 use Rattle.trie_model.specs.Hashing.{value_digest}
 use Rattle.trie_model.specs.Maps.{Map, digest_entry, map_digests}
+use Rattle.mdb_core.specs.Stores.{AreDigests}
 
 -- the bytes of a key
 abbrev pub key_items : SmallVec ℕ → List ℕ
@@ -63,3 +65,11 @@ pub map_digests-remove : (m : Map) (k : List ℕ) → map_digests (remove m k) �
 map_digests-remove m k =
     ap (map digest_entry) (entries-remove m k ∙ where_other k (entries m) (entries-IsAscending m))
     ∙ digests-remove_entry (entries m) k
+
+-- digests of a map stay so where one of a value is put
+pub put-AreDigests : (ds : List (List ℕ × List ℕ)) (k v : List ℕ) → AreDigests ds → AreDigests (put bytes_cmp k (value_digest v) ds)
+put-AreDigests ds k v (m, e) = (insert m k v, ap (put bytes_cmp k (value_digest v)) e ∙ sym (map_digests-insert m k v))
+
+-- those of the empty map are none
+pub none-AreDigests : AreDigests []
+none-AreDigests = (empty, sym (ap (map digest_entry) (nil_from_length (entries empty) (sym (len-entries empty) ∙ len-empty bytes_cmp (List ℕ)))))

@@ -7,6 +7,7 @@ use Rattle.store_model.specs.Journal.{Stands}
 use Rattle.value_store.specs.Values.{ValueState, Keeps as ValuesKeep}
 use Rattle.value_store.specs.Opens.{Opened as ValuesOpened}
 use Rattle.value_store.proofs.KeptMaps.{keeps_stands, keeps_same, opened_map}
+use Rattle.view_model.specs.Forest.{no_views}
 use Rattle.mdb_core.specs.Stores.{DbState, Keeps, is_failed}
 use Rattle.mdb_core.specs.Opens.{Opened}
 use Rattle.mdb_core.specs.declared.fault.DbFault.{DbFault}
@@ -17,7 +18,7 @@ values_same s t m files now same same' k = keeps_same t m files now same' (subst
 
 module _ (width : ℕ) (was mid is : Files) (v : ValueState) (o : ValuesOpened width was mid v) where
   -- where all is read, it is the store
-  pub opened_store : (r : Result DbState DbFault) → ((m : Map) → ValuesKeep v m mid → IfOk r (λ d. Keeps d m is)) → IfOk r (λ d. (is_failed d ≡ false) × (d.given ≡ 0) × (d.width ≡ width)) → IfOk r (Opened width was is)
+  pub opened_store : (r : Result DbState DbFault) → ((m : Map) → ValuesKeep v m mid → IfOk r (λ d. Keeps d m is)) → IfOk r (λ d. (is_failed d ≡ false) × (d.forest ≡ no_views) × (d.width ≡ width)) → IfOk r (Opened width was is)
   opened_store (Ok d) keeps works = record { map = o.map; stands = o.stands; width_was = o.width_was; width_is = works.2; keeps = keeps o.map o.keeps }
   opened_store (Err fault) keeps works = tt
 

@@ -1,5 +1,5 @@
 -- The digests of pairs that are taken in the order of their keys.
-use Rattle.std.proofs.Common.{◌≡◌, ℕ, List, [], ◌∷◌, ◌++◌, map, refl, sym, ap, ◌∙◌, Less}
+use Rattle.std.proofs.Common.{◌≡◌, ℕ, List, [], ◌∷◌, ◌++◌, map, refl, sym, ap, ◌∙◌, subst, Less}
 use Rattle.std.specs.List.{AllByRecursion}
 use Rattle.std.specs.FinMap.{entries}
 use Rattle.std.specs.FinMap.Entries.{put}
@@ -9,7 +9,9 @@ use Rattle.trie_model.specs.Hashing.{value_digest}
 use Rattle.trie_model.specs.Maps.{Map, digest_entry, map_digests}
 use Rattle.trie_model.proofs.Entries.{IsAscending, entries-IsAscending}
 use Rattle.value_store.specs.PairSinks.{TakesAll}
+use Rattle.mdb_core.specs.Stores.{AreDigests}
 use Rattle.mdb_core.proofs.LastPuts.{put_next}
+use Rattle.mdb_core.proofs.MapDigests.{put-AreDigests}
 
 abbrev Entry : Type 0
 Entry = List ℕ × List ℕ
@@ -35,3 +37,8 @@ along (e ∷ es) ds new whole ascends is taken =
 
 pub taken_digests : (m : Map) (new : List Entry) → TakesAll puts_digest [] (entries m) new → new ≡ map_digests m
 taken_digests m new taken = along (entries m) [] new (map_digests m) (digests-IsAscending (entries m) (entries-IsAscending m)) refl taken
+
+-- whatever pairs are taken, the digests stay those of a map
+pub some_digests : (es ds new : List Entry) → AreDigests ds → TakesAll puts_digest ds es new → AreDigests new
+some_digests [] ds new some taken = subst AreDigests (sym taken) some
+some_digests (e ∷ es) ds new some taken = some_digests es taken.0 new (subst AreDigests (sym taken.1) (put-AreDigests ds e.0 e.1 some)) taken.2

@@ -1,17 +1,19 @@
 -- What applying a batch does.
 use Rattle.std.specs.Prelude.{◌≡◌, ◌<◌, ◌≤◌, false, true, List, length}
-use Rattle.batch_model.specs.Batch.{Change, batch_form}
+use Rattle.batch_model.specs.Batch.{Change}
+use Rattle.view_model.specs.Calls.{number_limit}
+use Rattle.view_model.specs.Forest.{payload}
 use Rattle.mdb_journal.specs.Journal.{payload_limit}
 use Rattle.value_store.specs.Values.{pairs_limit}
 use Rattle.value_store.specs.Writes.{Writes, MayAppend, KeysAfter}
-use Rattle.mdb_core.specs.Stores.{DbState, is_failed, number_limit}
+use Rattle.mdb_core.specs.Stores.{DbState, is_failed}
 use Rattle.mdb_core.specs.declared.fault.DbFault.{DbFault}
-use Rattle.mdb_core.specs.declared.fault.DbFault.TheVariants.{Disk, NotAStore, BranchDiffers, Damaged, Failed, TooMany, TooLarge, Full, NoMemory}
+use Rattle.mdb_core.specs.declared.fault.DbFault.TheVariants.{Disk, Failed, TooMany, TooLarge, Full, NoMemory}
 
 -- the store works, and a number is left
 pub record MayNumber (s : DbState) : Type 0 where
   pub works : is_failed s ≡ false
-  pub left : s.given < number_limit
+  pub left : length s.forest.views < number_limit
 
 -- a batch was applied
 pub record Applies (s : DbState) (batch : List Change) : Type 0 where
@@ -21,11 +23,9 @@ pub record Applies (s : DbState) (batch : List Change) : Type 0 where
 -- why a batch was not applied: the first of these that holds, save for want of memory
 abbrev pub ApplyFails : DbState → List Change → DbFault → Type 0
 ApplyFails s batch Failed = is_failed s ≡ true
-ApplyFails s batch TooMany = (is_failed s ≡ false) × (number_limit ≤ s.given)
-ApplyFails s batch (TooLarge n) = MayNumber s × (n ≡ length (batch_form batch)) × (payload_limit < n)
+ApplyFails s batch TooMany = (is_failed s ≡ false) × (number_limit ≤ length s.forest.views)
+ApplyFails s batch (TooLarge n) = MayNumber s × (n ≡ payload batch) × (payload_limit < n)
 ApplyFails s batch Full = MayNumber s × MayAppend s.values batch × KeysAfter s.values batch (λ n. pairs_limit < n)
 ApplyFails s batch Disk = Applies s batch
 ApplyFails s batch NoMemory = MayNumber s × MayAppend s.values batch
-ApplyFails s batch (NotAStore file) = ⊥
-ApplyFails s batch (BranchDiffers kept asked) = ⊥
-ApplyFails s batch (Damaged file at) = ⊥
+ApplyFails s batch other = ⊥

@@ -6,7 +6,7 @@ use Rattle.store_model.specs.Journal.{Stands, active}
 use Rattle.store_model.specs.Refusals.{Refused, HasWidth, NotAStore as no_store, BranchDiffers as differs, Damaged as damaged}
 use Rattle.mdb_core.specs.Stores.{DbState, Keeps}
 use Rattle.mdb_core.specs.declared.fault.DbFault.{DbFault}
-use Rattle.mdb_core.specs.declared.fault.DbFault.TheVariants.{Disk, NotAStore, BranchDiffers, Damaged, Failed, TooMany, TooLarge, Full, NoMemory}
+use Rattle.mdb_core.specs.declared.fault.DbFault.TheVariants.{Disk, NotAStore, BranchDiffers, Damaged, NoMemory}
 
 -- the files stood for a map before, and now they are those of the store, which stands for it
 pub record Opened (width : ℕ) (was is : Files) (s : DbState) : Type 0 where
@@ -23,7 +23,4 @@ OpenFails width files (BranchDiffers kept asked) = Refused limits width files (d
 OpenFails width files (Damaged file at) = Refused limits width files (damaged file at)
 OpenFails width files Disk = Unit {0}
 OpenFails width files NoMemory = Unit {0}
-OpenFails width files Failed = ⊥
-OpenFails width files TooMany = ⊥
-OpenFails width files (TooLarge n) = ⊥
-OpenFails width files Full = ⊥
+OpenFails width files other = ⊥

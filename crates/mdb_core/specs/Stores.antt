@@ -1,20 +1,22 @@
--- What a store knows of its files.
-use Rattle.std.specs.Prelude.{◌≡◌, ℕ, Bool, List}
+-- What a store knows of its files and of its views.
+use Rattle.std.specs.Prelude.{◌≡◌, ℕ, zero, suc, ◌≤◌, Bool, List, [], length, Some, slice_index_or}
 use Rattle.disk_model.specs.Files.{Files}
 use Rattle.trie_model.specs.Maps.{Map, map_digests, root}
+use Rattle.view_model.specs.Forest.{Forest, Live, state, payload}
+use Rattle.view_model.specs.Maps.{changes_of, view_map}
+use Rattle.view_model.specs.Standing.{IsForest}
+use Rattle.mdb_journal.specs.Journal.{payload_limit}
 use Rattle.value_store.specs.Values.{ValueState, broken as broken_values, Keeps as ValuesKeep}
 
--- how many numbers are given to batches at most
-abbrev pub number_limit : ℕ
-number_limit = 1000000
-
--- the values, the digests of the values by their keys, the bits of a token, the root, and how many numbers were given
+-- the values, the digests of the values by their keys, the bits of a token, the root, the views, and their roots in the
+-- order of their numbers
 pub record DbState : Type 0 where
   pub values : ValueState
   pub digests : List (List ℕ × List ℕ)
   pub width : ℕ
   pub root : List ℕ
-  pub given : ℕ
+  pub forest : Forest
+  pub roots : List (List ℕ)
 
 -- whether the disk failed in a call
 abbrev pub is_failed : DbState → Bool
@@ -24,8 +26,30 @@ is_failed s = s.values.journal.failed
 abbrev pub broken : DbState → DbState
 broken s = record s { values = broken_values s.values }
 
+-- the root of the view of a number
+abbrev pub root_at : List (List ℕ) → ℕ → List ℕ
+root_at roots zero = []
+root_at roots (suc i) = slice_index_or roots i []
+
+-- the roots are those of this map, and of the maps of the live views on it
+pub record HasRoots (s : DbState) (m : Map) : Type 0 where
+  pub map : s.root ≡ root s.width m
+  pub views : (n : ℕ) → state s.forest n ≡ Some Live → root_at s.roots n ≡ root s.width (view_map s.forest m n)
+
+-- the digests of some map
+abbrev pub AreDigests : List (List ℕ × List ℕ) → Type 0
+AreDigests digests = (m : Map) × (digests ≡ map_digests m)
+
+-- what holds of every store: it has the digests of a map and its roots, and each live view may be written as one record
+pub record IsStore (s : DbState) : Type 0 where
+  pub digests : AreDigests s.digests
+  pub roots : (m : Map) → s.digests ≡ map_digests m → HasRoots s m
+  pub forest : IsForest s.forest
+  pub counted : length s.roots ≡ length s.forest.views
+  pub fits : (n : ℕ) → state s.forest n ≡ Some Live → payload (changes_of s.forest n) ≤ payload_limit
+
 -- the files are those of the store, which stands for this map
 pub record Keeps (s : DbState) (m : Map) (files : Files) : Type 0 where
   pub values : ValuesKeep s.values m files
   pub digests : s.digests ≡ map_digests m
-  pub root : s.root ≡ root s.width m
+  pub roots : HasRoots s m

@@ -1,5 +1,5 @@
 // Applying a batch.
-ghost use Rattle.std.specs.Prelude.{◌≡◌, ◌+◌, ◌≤◌, ◌<◌, ℕ, false, length, OnOk, IfOk, IfErr, IsErrOf};
+ghost use Rattle.std.specs.Prelude.{◌≡◌, ◌+◌, ◌≤◌, ◌<◌, ℕ, false, length, vec_capacity, OnOk, IfOk, IfErr, IsErrOf};
 ghost use Rattle.base_model.specs.Faults.{Rose};
 ghost use Rattle.disk_model.specs.Moments.{LeavesOnly, Meanwhile};
 ghost use Rattle.disk_model.specs.Words.{TellsContents, TellsImages};
@@ -9,7 +9,9 @@ ghost use Rattle.batch_model.specs.Batch.{after_batch};
 ghost use Rattle.store_model.specs.Journal.{Stands};
 ghost use Rattle.mdb_journal.specs.Moves.{AreSynced, OthersStay};
 ghost use Rattle.value_store.specs.Writes.{StandEither, MayAppend};
-ghost use Rattle.mdb_core.specs.Stores.{Keeps, broken, is_failed, number_limit};
+ghost use Rattle.view_model.specs.Forest.{next_number};
+ghost use Rattle.view_model.specs.Calls.{directed, number_limit};
+ghost use Rattle.mdb_core.specs.Stores.{Keeps, broken, is_failed};
 ghost use Rattle.mdb_core.specs.Applies.{Applies, ApplyFails, MayNumber};
 
 use crate::fault::told;
@@ -20,12 +22,13 @@ use mdb_base::{Batch, NoMemory};
 use std::alloc::Global;
 use std::sync::ledger::Ledger;
 use trie_items::Steps;
+use view_stack::ViewStack;
 
-/// How many numbers are given to batches at most.
-const NUMBER_LIMIT: u64 = 1_000_000;
+/// How many numbers are given at most.
+const NUMBER_LIMIT: usize = 1_000_000;
 
 /// How many bytes the payload of a batch has at most.
-const PAYLOAD_LIMIT: u64 = 33_554_432;
+pub(crate) const PAYLOAD_LIMIT: u64 = 33_554_432;
 
 /// What takes the place of the digests and of the root once a batch is written.
 #[derive(Drop)]
@@ -50,7 +53,8 @@ impl Db {
         ensures fails { IsErrOf result DbFault.Disk → self.new ≡ broken self.old }
         ensures refused { IfErr result (λ fault. (fault ≡ DbFault.Disk → ⊥) → (self.new ≡ self.old) × (disk.new ≡ disk.old)) }
         ensures works { OnOk result (is_failed self.new ≡ false) }
-        ensures number { IfOk result (λ made. (made.0.number ≡ self.old.given + 1) × (self.new.given ≡ self.old.given + 1)) }
+        ensures number { IfOk result (λ made. made.0.number ≡ next_number self.old.forest) }
+        ensures views { OnOk result (self.new.forest ≡ directed self.old.forest) }
         ensures root { IfOk result (λ made. made.1 ≡ self.new.root) }
         ensures width { self.new.width ≡ self.old.width }
         ensures contents { TellsContents D.words.tells → (m : Map) → Keeps self.old m (D.words.seen disk.old) → OnOk result (Keeps self.new (after_batch m batch) (D.words.seen disk.new)) }
@@ -69,8 +73,18 @@ impl Db {
             Ok(next) => next,
             Err(fault) => return Err(fault),
         };
+        if make_room(&mut self.views, &mut self.roots).is_err() {
+            return Err(DbFault::NoMemory);
+        }
         match self.values.write(alloc, disk, &batch) {
-            Ok(()) => Ok(self.accept(next)),
+            Ok(()) => {
+                let Next { digests, root } = next;
+                self.digests = digests;
+                self.root = root;
+                let id = self.views.direct();
+                self.roots.push_reserved(root);
+                Ok((id, root))
+            }
             Err(fault) => Err(told(fault)),
         }
     }
@@ -108,7 +122,7 @@ impl Db {
         if self.values.failed() {
             return Err(DbFault::Failed);
         }
-        if self.given >= NUMBER_LIMIT {
+        if self.roots.len() >= NUMBER_LIMIT {
             return Err(DbFault::TooMany);
         }
         let bytes = batch.payload_len();
@@ -134,18 +148,21 @@ impl Db {
         let root = digests.counted_root(alloc, self.branch, steps)?;
         Ok(Next { digests, root })
     }
+}
 
-    /// A batch was written: its number, and the root after it.
-    fn accept(&mut self, next: Next) -> (ViewId, Id)
-        requires left { self.old.given < number_limit }
-        requires root { (m : Map) → next.digests ≡ map_digests m → next.root ≡ root self.old.width m }
-        ensures made { result ≡ (record { number = self.old.given + 1 }, next.root) }
-        ensures state { self.new ≡ record self.old { digests = next.digests; root = next.root; given = self.old.given + 1 } }
-    {
-        let Next { digests, root } = next;
-        self.digests = digests;
-        self.root = root;
-        self.given += 1;
-        (ViewId { number: self.given }, root)
+/// Makes room for the number of one direct batch, and for its root.
+fn make_room(views: &mut ViewStack, roots: &mut Vec<Id>) -> Result<(), NoMemory>
+    requires few { length views.old.forest.views < number_limit }
+    ensures forest { views.new.forest ≡ views.old.forest }
+    ensures roots { roots.new.items ≡ roots.old.items }
+    ensures room { OnOk result (0 < views.new.room) }
+    ensures spare { OnOk result (length roots.new.items < vec_capacity roots.new) }
+{
+    if views.room().is_err() {
+        return Err(NoMemory);
     }
+    if roots.reserve(1).is_err() {
+        return Err(NoMemory);
+    }
+    Ok(())
 }

@@ -1,9 +1,10 @@
 // The faults of a store.
 ghost use Rattle.std.specs.Prelude.{◌≡◌};
-ghost use Rattle.mdb_core.specs.Faults.{fault_of};
+ghost use Rattle.mdb_core.specs.Faults.{fault_of, fault_of_view};
 
 use thiserror::Error;
 use value_store::ValueFault;
+use view_stack::{ViewFault, ViewState};
 
 /// Why a call on a store fails.
 #[derive(Clone, Copy, Debug, PartialEq, Eq, Error)]
@@ -24,12 +25,27 @@ pub enum DbFault {
     /// The disk failed in an earlier call on this store.
     #[error("the store failed before")]
     Failed,
+    /// The number of the view was never given.
+    #[error("an unknown view")]
+    Unknown,
+    /// The view is no longer live, and in this state.
+    #[error("a view that is not live")]
+    NotLive(ViewState),
     /// All 1,000,000 numbers were given.
     #[error("no number is left")]
     TooMany,
+    /// The path of the view would go more than 64 numbers past that of the store.
+    #[error("a view too far from the store")]
+    TooDeep,
+    /// The payloads of all live views would have more than 268,435,456 bytes.
+    #[error("the live views are too heavy")]
+    TooHeavy,
     /// The payload of a batch has so many bytes, which is more than 33,554,432.
     #[error("a payload of {0} bytes is too large")]
     TooLarge(u64),
+    /// The view stands on another one that was not committed.
+    #[error("the parent of the view is not the store")]
+    NotParent,
     /// The store would have more than 1,000,000 pairs.
     #[error("the store is full")]
     Full,
@@ -51,5 +67,19 @@ pub(crate) fn told(fault: ValueFault) -> DbFault
         ValueFault::Full => DbFault::Full,
         ValueFault::Failed => DbFault::Failed,
         ValueFault::NoMemory => DbFault::NoMemory,
+    }
+}
+
+/// A fault of the views, as the store tells it.
+pub(crate) fn told_of_view(fault: ViewFault) -> DbFault
+    ensures { result ≡ fault_of_view fault }
+{
+    match fault {
+        ViewFault::Unknown => DbFault::Unknown,
+        ViewFault::NotLive(state) => DbFault::NotLive(state),
+        ViewFault::TooMany => DbFault::TooMany,
+        ViewFault::TooDeep => DbFault::TooDeep,
+        ViewFault::TooHeavy => DbFault::TooHeavy,
+        ViewFault::NoMemory => DbFault::NoMemory,
     }
 }

@@ -1,18 +1,22 @@
-//! The store: a map on a disk with its root, changed by batches.
+//! The store: a map on a disk with its root, changed by batches, and views on it.
 //!
-//! It stands on `value_store` for the values and on `map_root` for the root. Its errors are those of
-//! the value store, `TooMany`, and want of memory. In this form it keeps the digest of each value in
-//! memory and makes the root of the whole map again at each batch.
+//! It stands on `value_store` for the values, on `view_stack` for the views and on `map_root` for the
+//! roots. Its errors are those of these, and `NotParent`. In this form it keeps the digest of each value
+//! in memory and makes the root of a whole map at each batch and at each view.
 #![tactic(auto)]
 
 mod applying;
+mod committing;
 mod digests;
 mod fault;
 mod opening;
+mod proposing;
+mod reading;
 mod store;
 #[cfg(test)]
 mod tests;
 
 pub use digests::{Digests, KeyBytes};
 pub use fault::DbFault;
-pub use store::{At, Config, Db, ViewId};
+pub use store::{At, Config, Db};
+pub use view_stack::{ViewId, ViewState};

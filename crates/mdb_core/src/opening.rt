@@ -10,7 +10,8 @@ ghost use Rattle.mdb_journal.specs.Moves.{AreSynced};
 ghost use Rattle.mdb_journal.specs.Opening.{Untouched};
 ghost use Rattle.value_store.specs.Values.{Keeps as ValuesKeep};
 ghost use Rattle.store_model.specs.Openings.{Opens};
-ghost use Rattle.mdb_core.specs.Stores.{Keeps, is_failed};
+ghost use Rattle.view_model.specs.Forest.{no_views};
+ghost use Rattle.mdb_core.specs.Stores.{AreDigests, Keeps, is_failed};
 ghost use Rattle.mdb_core.specs.Opens.{Opened, OpenFails};
 
 use crate::fault::told;
@@ -19,6 +20,7 @@ use bit_keys::Branch;
 use disk_world::Disk;
 use std::alloc::Global;
 use value_store::ValueStore;
+use view_stack::ViewStack;
 
 impl Db {
     /// Opens the store of a disk, and makes it where there is none.
@@ -31,7 +33,7 @@ impl Db {
         requires cache { (1 ≤ config.cache) × (config.cache ≤ 65536) }
         requires weight { config.weight ≤ 268435456 }
         ensures opened { TellsContents D.words.tells → IfOk result (Opened (width_of branch) (D.words.seen disk.old) (D.words.seen disk.new)) }
-        ensures works { IfOk result (λ d. (is_failed d ≡ false) × (d.given ≡ 0) × (d.width ≡ width_of branch)) }
+        ensures works { IfOk result (λ d. (is_failed d ≡ false) × (d.forest ≡ no_views) × (d.width ≡ width_of branch)) }
         ensures refused { TellsContents D.words.tells → IfErr result (OpenFails (width_of branch) (D.words.seen disk.old)) }
         ensures kept { TellsContents D.words.tells → (m : Map) → Stands limits (D.words.seen disk.old) m → IsErrOf result DbFault.NoMemory → Stands limits (D.words.seen disk.new) m }
         ensures read_others { TellsContents D.words.tells → (file : ℕ) → 2 ≤ file → D.words.seen disk.new file ≡ D.words.seen disk.old file }
@@ -59,7 +61,7 @@ fn rooted<D: Disk>(
 ) -> Result<Db, DbFault>
     requires works { values.journal.failed ≡ false }
     ensures keeps { TellsContents D.words.tells → (m : Map) → ValuesKeep values m (D.words.seen disk.old) → IfOk result (λ d. Keeps d m (D.words.seen disk.new)) }
-    ensures works { IfOk result (λ d. (is_failed d ≡ false) × (d.given ≡ 0) × (d.width ≡ width_of branch)) }
+    ensures works { IfOk result (λ d. (is_failed d ≡ false) × (d.forest ≡ no_views) × (d.width ≡ width_of branch)) }
     ensures fault { IfErr result (λ fault. (fault ≡ DbFault.Disk) ⊎ (fault ≡ DbFault.NoMemory)) }
     ensures untouched { Untouched (D.words.seen disk.old) (D.words.seen disk.new) (D.words.moments disk.old) (D.words.moments disk.new) }
     ensures later { D.words.faults disk.old ≤ D.words.faults disk.new }
@@ -75,7 +77,8 @@ fn rooted<D: Disk>(
             digests,
             root,
             branch,
-            given: 0,
+            views: ViewStack::new(alloc),
+            roots: Vec::new(alloc),
         }),
         Err(_) => Err(DbFault::NoMemory),
     }
@@ -89,6 +92,7 @@ fn read_digests<D: Disk>(
 ) -> Result<Digests, DbFault>
     requires works { values.old.journal.failed ≡ false }
     ensures digests { TellsContents D.words.tells → (m : Map) → ValuesKeep values.old m (D.words.seen disk.old) → IfOk result (λ digests. digests ≡ map_digests m) }
+    ensures some { IfOk result (λ digests. AreDigests digests) }
     ensures stays { OnOk result (values.new ≡ values.old) }
     ensures fault { IfErr result (λ fault. (fault ≡ DbFault.Disk) ⊎ (fault ≡ DbFault.NoMemory)) }
     ensures untouched { Untouched (D.words.seen disk.old) (D.words.seen disk.new) (D.words.moments disk.old) (D.words.moments disk.new) }

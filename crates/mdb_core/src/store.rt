@@ -1,20 +1,14 @@
 // The store, and the calls that do not change it.
-ghost use Rattle.std.specs.Prelude.{◌≡◌, ◌⊎◌, ◌≤◌, None, true, false, length, option_map, OnOk, IfOk, IfErr, IsErrOf};
-ghost use Rattle.std.specs.FinMap as map_of;
-ghost use Rattle.base_model.specs.Faults.{Rose};
-ghost use Rattle.disk_model.specs.Words.{TellsContents};
-ghost use Rattle.trie_model.specs.Maps.{Map};
+ghost use Rattle.std.specs.Prelude.{◌≡◌, None, true, false, length, OnOk, IfErr};
 ghost use Rattle.bit_keys.specs.Branch.{width_of};
-ghost use Rattle.mdb_journal.specs.Opening.{Untouched};
-ghost use Rattle.mdb_core.specs.Stores.{Keeps, broken, is_failed};
+ghost use Rattle.mdb_core.specs.Stores.{is_failed};
 
-use crate::fault::told;
-use crate::{DbFault, Digests};
+use crate::{DbFault, Digests, ViewId};
 use bit_keys::{Branch, Id};
 use disk_world::Disk;
-use std::alloc::Global;
 use std::marker::Model;
 use value_store::ValueStore;
+use view_stack::ViewStack;
 
 /// How a store is kept. In this form of the store nothing of it has an effect.
 #[derive(Clone, Copy, Debug, PartialEq, Eq)]
@@ -32,38 +26,33 @@ pub struct Config {
 pub enum At {
     /// The map of the store.
     Store,
+    /// The map of a live view.
+    View(ViewId),
 }
 
-/// The number of a batch that was applied. Numbers count from 1 for each opening.
-#[derive(Clone, Copy, Debug, PartialEq, Eq)]
-pub struct ViewId {
-    pub number: u64,
-}
-
-/// A map on a disk, with its root. It belongs to the disk on which it was opened.
+/// A map on a disk, with its root, and the views on it. It belongs to the disk on which it was opened.
 ///
-/// Its root is that of the map whose digests it holds.
+/// Its root is that of the map whose digests it holds, and the root of each live view that of the view's map.
 #[derive(Drop)]
 pub struct Db {
     pub(crate) values: ValueStore,
     pub(crate) digests: Digests,
     pub(crate) root: Id,
     pub(crate) branch: Branch,
-    /// How many batches were applied since the opening.
-    pub(crate) given: u64,
+    pub(crate) views: ViewStack,
+    /// The root of each view when it was made, in the order of their numbers.
+    pub(crate) roots: Vec<Id>,
 }
 
 impl Model for Db {
-    ghost use Rattle.std.specs.Prelude.{◌≡◌};
-    ghost use Rattle.trie_model.specs.Maps.{Map, map_digests, root as root_of_map};
     ghost use Rattle.bit_keys.specs.Branch.{width_of};
-    ghost use Rattle.mdb_core.specs.Stores.{DbState};
+    ghost use Rattle.mdb_core.specs.Stores.{DbState, IsStore};
 
     ghost Value = { DbState };
 
-    ghost view = { λ d. record { values = d.values; digests = d.digests; width = width_of d.branch; root = d.root; given = d.given } };
+    ghost view = { λ d. record { values = d.values; digests = d.digests; width = width_of d.branch; root = d.root; forest = d.views.forest; roots = d.roots.items } };
 
-    ghost invariant = { λ d. (m : Map) → d.digests ≡ map_digests m → d.root ≡ root_of_map (width_of d.branch) m };
+    ghost invariant = { λ d. IsStore (record { values = d.values; digests = d.digests; width = width_of d.branch; root = d.root; forest = d.views.forest; roots = d.roots.items }) };
 }
 
 impl Db {
@@ -101,31 +90,6 @@ impl Db {
         ensures { result ≡ None }
     {
         None
-    }
-
-    /// The value of a key; None where the key is not there.
-    pub fn get<D: Disk>(
-        &mut self,
-        alloc: Global,
-        disk: &mut D,
-        at: At,
-        key: &[u8],
-    ) -> Result<Option<Vec<u8>>, DbFault>
-        ensures value { TellsContents D.words.tells → (m : Map) → Keeps self.old m (D.words.seen disk.old)
-            → IfOk result (λ value. option_map (λ v. v.items) value ≡ map_of.get m key.now) }
-        ensures failed { is_failed self.old ≡ true → IsErrOf result DbFault.Failed }
-        ensures works { is_failed self.old ≡ false → IfErr result (λ fault. (fault ≡ DbFault.Disk) ⊎ (fault ≡ DbFault.NoMemory)) }
-        ensures fails { IsErrOf result DbFault.Disk → self.new ≡ broken self.old }
-        ensures stays { (IsErrOf result DbFault.Disk → ⊥) → self.new ≡ self.old }
-        ensures untouched { Untouched (D.words.seen disk.old) (D.words.seen disk.new) (D.words.moments disk.old) (D.words.moments disk.new) }
-        ensures later { D.words.faults disk.old ≤ D.words.faults disk.new }
-        ensures disk { IsErrOf result DbFault.Disk → Rose (D.words.faults disk.old) (D.words.faults disk.new) }
-    {
-        let At::Store = at;
-        match self.values.get(alloc, disk, key) {
-            Ok(value) => Ok(value),
-            Err(fault) => Err(told(fault)),
-        }
     }
 
     /// Ends the use of the store. In this form it makes no disk call.

@@ -1,6 +1,6 @@
 ghost use Rattle.std.specs.Prelude.{◌≡◌, ◌<◌};
 
-use crate::{At, Config, Db, DbFault, Digests, KeyBytes, ViewId};
+use crate::{At, Config, Db, DbFault, Digests, KeyBytes, ViewId, ViewState};
 use bit_keys::{Branch, Id};
 use disk_world::Disk;
 use mdb_base::{Batch, BatchFault};
@@ -27,15 +27,20 @@ fn root_of_one(key: u8, value: u8) -> Id {
     Sha256::digest(&[0, 1, 1, value, 8, key])
 }
 
-/// The root of {6b: 76, 6c: 77} at 16 children a node: two children at the four bits that the keys share.
-fn root_of_both() -> Id {
+/// The root of a map of two pairs at 16 children a node: two children at the four bits that the keys share.
+fn root_of_two(first: (u8, u8), second: (u8, u8)) -> Id {
     let mut hasher = Sha256::new();
-    hasher.update(&[2, 0x0b]);
-    hasher.update(&root_of_one(0x6b, 0x76));
-    hasher.update(&[0x0c]);
-    hasher.update(&root_of_one(0x6c, 0x77));
-    hasher.update(&[0, 4, 0x60]);
+    hasher.update(&[2, first.0 & 0x0f]);
+    hasher.update(&root_of_one(first.0, first.1));
+    hasher.update(&[second.0 & 0x0f]);
+    hasher.update(&root_of_one(second.0, second.1));
+    hasher.update(&[0, 4, first.0 & 0xf0]);
     hasher.finalize()
+}
+
+/// The root of {6b: 76, 6c: 77}.
+fn root_of_both() -> Id {
+    root_of_two((0x6b, 0x76), (0x6c, 0x77))
 }
 
 fn opened<D: Disk>(alloc: Global, disk: &mut D, branch: Branch) -> Result<Db, DbFault> {
@@ -344,5 +349,188 @@ fn digests_follow_what_is_put_and_removed(rt: HostRuntime) -> Result<(), Fail> {
         &batch_of(alloc, &[(b"k", None), (b"l", Some(b"v"))])?,
     )?;
     assert_eq!(rt; copy.root(alloc, Branch::B16), Ok(root_of_one(0x6c, 0x76)));
+    Ok(())
+}
+
+/// A call on views, by their numbers.
+#[derive(Clone, Copy, Debug)]
+enum Step {
+    /// A view that puts a value at a key, on a view or on the store, and its root.
+    Make(Option<u64>, u8, u8, Result<Id, DbFault>),
+    Close(u64, Result<(), DbFault>),
+    Take(u64, Result<Id, DbFault>),
+    /// A value that is put at a key at once, and the root after it.
+    Apply(u8, u8, Id),
+    State(u64, Option<ViewState>),
+    /// The value at a key of a view.
+    Get(u64, u8, Result<Option<u8>, DbFault>),
+    Root(u64, Result<Id, DbFault>),
+}
+
+fn proposed<D: Disk, L: Ledger>(
+    alloc: Global,
+    disk: &mut D,
+    db: &mut Db,
+    parent: Option<ViewId>,
+    batch: Batch,
+    blank: Blank,
+) -> Result<ViewId, DbFault>
+    requires name { blank.name ≡ L.name }
+    requires parts { blank.parts ≡ L.parts }
+    requires some { 0 < blank.parts }
+{
+    let mut steps = Steps::<L>::new(blank);
+    db.view(alloc, disk, parent, batch, &mut steps)
+}
+
+/// Makes a view, for a test that counts no hashes, and tells its root.
+fn made<D: Disk>(
+    alloc: Global,
+    disk: &mut D,
+    db: &mut Db,
+    parent: Option<u64>,
+    batch: Batch,
+) -> Result<Id, DbFault> {
+    let parent = parent.map(|number| ViewId { number });
+    let id = proposed::<D, Brand>(alloc, disk, db, parent, batch, Blank::new(1))?;
+    db.root_of(id)
+}
+
+fn one_byte(value: Option<Vec<u8>>) -> Option<u8> {
+    value.and_then(|bytes| bytes.first().copied())
+}
+
+fn assert_step<D: Disk>(
+    rt: &impl Abort,
+    alloc: Global,
+    disk: &mut D,
+    db: &mut Db,
+    step: Step,
+) -> Result<(), Fail> {
+    match step {
+        Step::Make(parent, key, value, want) => {
+            let batch = batch_of(alloc, &[(&[key], Some(&[value]))])?;
+            assert_eq!(rt; made(alloc, disk, db, parent, batch), want, "{step:?}");
+        }
+        Step::Close(number, want) => {
+            assert_eq!(rt; db.close_view(ViewId { number }), want, "{step:?}");
+        }
+        Step::Take(number, want) => {
+            assert_eq!(rt; db.commit(alloc, disk, ViewId { number }), want, "{step:?}");
+            if let Ok(root) = want {
+                assert_eq!(rt; db.root(), root, "{step:?}");
+            }
+        }
+        Step::Apply(key, value, root) => {
+            let batch = batch_of(alloc, &[(&[key], Some(&[value]))])?;
+            let (_, after) = applied(alloc, disk, db, batch)?;
+            assert_eq!(rt; after, root, "{step:?}");
+        }
+        Step::State(number, want) => {
+            assert_eq!(rt; db.state(ViewId { number }), want, "{step:?}");
+        }
+        Step::Get(number, key, want) => {
+            let found = db.get(alloc, disk, At::View(ViewId { number }), &[key]);
+            assert_eq!(rt; found.map(one_byte), want, "{step:?}");
+        }
+        Step::Root(number, want) => {
+            assert_eq!(rt; db.root_of(ViewId { number }), want, "{step:?}");
+        }
+    }
+    Ok(())
+}
+
+#[test]
+fn views_are_made_read_closed_and_committed(rt: HostRuntime) -> Result<(), Fail> {
+    let alloc = rt.alloc();
+    let invalid = DbFault::NotLive(ViewState::Invalid);
+    let closed = DbFault::NotLive(ViewState::Closed);
+    let (a, b) = (root_of_one(0x0a, 0x61), root_of_one(0x0b, 0x62));
+    let ac = root_of_two((0x0a, 0x61), (0x0c, 0x63));
+    let ad = root_of_two((0x0a, 0x61), (0x0c, 0x64));
+    // Each run begins with a store of no pair.
+    let siblings = [
+        Step::Make(None, 0x0a, 0x61, Ok(a)),
+        Step::Make(None, 0x0b, 0x62, Ok(b)),
+        Step::Make(Some(1), 0x0c, 0x63, Ok(ac)),
+        Step::Get(3, 0x0a, Ok(Some(0x61))),
+        Step::Get(3, 0x0c, Ok(Some(0x63))),
+        Step::Get(3, 0x0b, Ok(None)),
+        Step::Take(3, Err(DbFault::NotParent)),
+        Step::Take(1, Ok(a)),
+        Step::State(1, Some(ViewState::Committed)),
+        Step::State(2, Some(ViewState::Invalid)),
+        Step::State(3, Some(ViewState::Live)),
+        Step::State(4, None),
+        Step::Get(2, 0x0b, Err(invalid)),
+        Step::Root(2, Err(invalid)),
+        Step::Root(3, Ok(ac)),
+        Step::Take(2, Err(invalid)),
+        Step::Take(3, Ok(ac)),
+        Step::Make(Some(2), 0x0d, 0x65, Err(invalid)),
+        Step::Take(4, Err(DbFault::Unknown)),
+    ];
+    let overlaid = [
+        Step::Make(None, 0x0a, 0x61, Ok(a)),
+        Step::Make(Some(1), 0x0c, 0x63, Ok(ac)),
+        Step::Make(Some(2), 0x0c, 0x64, Ok(ad)),
+        Step::Get(3, 0x0c, Ok(Some(0x64))),
+        Step::Get(2, 0x0c, Ok(Some(0x63))),
+        Step::Get(1, 0x0c, Ok(None)),
+        Step::Close(2, Ok(())),
+        Step::State(1, Some(ViewState::Live)),
+        Step::State(3, Some(ViewState::Closed)),
+        Step::Get(3, 0x0c, Err(closed)),
+        Step::Close(3, Err(closed)),
+        Step::Take(1, Ok(a)),
+        Step::Close(9, Err(DbFault::Unknown)),
+        Step::Root(0, Err(DbFault::Unknown)),
+    ];
+    let direct = [
+        Step::Make(None, 0x0b, 0x62, Ok(b)),
+        Step::Apply(0x0a, 0x61, a),
+        Step::State(1, Some(ViewState::Invalid)),
+        Step::State(2, Some(ViewState::Committed)),
+        Step::Make(
+            Some(2),
+            0x0c,
+            0x63,
+            Err(DbFault::NotLive(ViewState::Committed)),
+        ),
+        Step::Make(None, 0x0c, 0x63, Ok(ac)),
+        Step::Get(3, 0x0a, Ok(Some(0x61))),
+        Step::Take(3, Ok(ac)),
+    ];
+    for steps in [siblings.as_slice(), overlaid.as_slice(), direct.as_slice()] {
+        let mut disk = MemDisk::new(alloc);
+        let mut db = opened(alloc, &mut disk, Branch::B16)?;
+        for step in steps {
+            assert_step(&rt, alloc, &mut disk, &mut db, *step)?;
+        }
+        let root = db.root();
+        let again = opened(alloc, &mut disk, Branch::B16)?;
+        assert_eq!(rt; again.root(), root);
+    }
+    Ok(())
+}
+
+#[test]
+fn a_view_may_be_so_far_from_the_store_and_no_farther(rt: HostRuntime) -> Result<(), Fail> {
+    let alloc = rt.alloc();
+    let mut disk = MemDisk::new(alloc);
+    let mut db = opened(alloc, &mut disk, Branch::B16)?;
+    let mut parent = None;
+    for number in 1..65u64 {
+        let batch = batch_of(alloc, &[(b"k", Some(b"v"))])?;
+        let root = made(alloc, &mut disk, &mut db, parent, batch);
+        assert_eq!(rt; root, Ok(root_of_one(0x6b, 0x76)), "{number}");
+        parent = Some(number);
+    }
+    let batch = batch_of(alloc, &[])?;
+    assert_eq!(rt;
+        made(alloc, &mut disk, &mut db, parent, batch),
+        Err(DbFault::TooDeep)
+    );
+    assert_eq!(rt; db.state(ViewId { number: 65 }), None);
     Ok(())
 }

@@ -1,5 +1,5 @@
 -- What an opened store keeps, and why none is opened.
-use Rattle.std.proofs.Common.{◌≡◌, ◌⊎◌, inl, inr, ℕ, ◌≤◌, refl, sym, subst}
+use Rattle.std.proofs.Common.{◌≡◌, ◌⊎◌, inl, inr, ℕ, ◌≤◌, false, refl, sym, ◌∙◌, subst}
 use Rattle.base_model.specs.Faults.{Rose}
 use Rattle.disk_model.specs.Files.{Files}
 use Rattle.disk_model.specs.Moments.{Moments}
@@ -9,10 +9,12 @@ use Rattle.store_model.specs.Journal.{Stands}
 use Rattle.store_model.specs.Openings.{Opens}
 use Rattle.store_model.proofs.Journals.{files_stand_for_one_map}
 use Rattle.mdb_journal.specs.Opening.{Untouched}
-use Rattle.mdb_core.specs.Stores.{DbState, Keeps}
+use Rattle.mdb_core.specs.Stores.{DbState, Keeps, is_failed}
 use Rattle.mdb_core.specs.Opens.{OpenFails}
+use Rattle.mdb_core.specs.Places.{GetFails}
+use Rattle.mdb_core.specs.declared.store.At.TheVariants.{Store}
 use Rattle.mdb_core.specs.declared.fault.DbFault.{DbFault}
-use Rattle.mdb_core.specs.declared.fault.DbFault.TheVariants.{Disk, NotAStore, BranchDiffers, Damaged, Failed, TooMany, TooLarge, Full, NoMemory}
+use Rattle.mdb_core.specs.declared.fault.DbFault.TheVariants.{Disk, NotAStore, BranchDiffers, Damaged, Failed, Unknown, NotLive, TooMany, TooDeep, TooHeavy, TooLarge, NotParent, Full, NoMemory}
 use Rattle.mdb_core.proofs.KeptStores.{kept_stands}
 use Rattle.run_model.specs.Outside.{DiskSeen}
 use Rattle.mdb_tool.specs.Ends.{end_of_fault}
@@ -28,8 +30,13 @@ opening_fails w before after (BranchDiffers asked given) refused rose kept = ref
 opening_fails w before after (Damaged file at) refused rose kept = refused
 opening_fails w before after NoMemory refused rose kept = kept refl
 opening_fails w before after Failed refused rose kept = λ told m stands. absurd (refused told)
+opening_fails w before after Unknown refused rose kept = λ told m stands. absurd (refused told)
+opening_fails w before after (NotLive state) refused rose kept = λ told m stands. absurd (refused told)
 opening_fails w before after TooMany refused rose kept = λ told m stands. absurd (refused told)
+opening_fails w before after TooDeep refused rose kept = λ told m stands. absurd (refused told)
+opening_fails w before after TooHeavy refused rose kept = λ told m stands. absurd (refused told)
 opening_fails w before after (TooLarge n) refused rose kept = λ told m stands. absurd (refused told)
+opening_fails w before after NotParent refused rose kept = λ told m stands. absurd (refused told)
 opening_fails w before after Full refused rose kept = λ told m stands. absurd (refused told)
 
 -- an opened store keeps the map that the files stood for
@@ -48,6 +55,23 @@ untouched_stands was is old new m u stands = subst (λ files. Stands limits file
 
 pub untouched_keeps : (before mid after : DiskSeen) → KeepsMaps before mid → Untouched mid.files after.files mid.moments after.moments → KeepsMaps before after
 untouched_keeps before mid after keeps u = λ told m stands. subst (λ now. Opens limits m before.moments now) (sym u.images) (keeps told m stands)
+
+-- why a key of the store is not read
+pub store_fails : (s : DbState) (fault : DbFault) → is_failed s ≡ false → GetFails s Store fault → (fault ≡ Disk) ⊎ (fault ≡ NoMemory)
+store_fails s Disk works why = inl refl
+store_fails s NoMemory works why = inr refl
+store_fails s Failed works why = let no : ⊥ = cc (sym works ∙ why) in absurd no
+store_fails s (NotAStore file) works why = let no : ⊥ = cc why.2 in absurd no
+store_fails s (BranchDiffers kept asked) works why = let no : ⊥ = cc why.2 in absurd no
+store_fails s (Damaged file at) works why = let no : ⊥ = cc why.2 in absurd no
+store_fails s Unknown works why = let no : ⊥ = cc why.2 in absurd no
+store_fails s (NotLive state) works why = let no : ⊥ = cc why.2 in absurd no
+store_fails s TooMany works why = let no : ⊥ = cc why.2 in absurd no
+store_fails s TooDeep works why = let no : ⊥ = cc why.2 in absurd no
+store_fails s TooHeavy works why = let no : ⊥ = cc why.2 in absurd no
+store_fails s (TooLarge n) works why = let no : ⊥ = cc why.2 in absurd no
+store_fails s NotParent works why = let no : ⊥ = cc why.2 in absurd no
+store_fails s Full works why = let no : ⊥ = cc why.2 in absurd no
 
 -- a look-up that fails
 pub look_up_fails : (w : ℕ) (before mid after : DiskSeen) (s : DbState) (fault : DbFault) → IsOpen w before mid s → before.faults ≤ mid.faults → Untouched mid.files after.files mid.moments after.moments

@@ -2,7 +2,7 @@
 use Rattle.mdb_tool.specs.declared.status.Status.{Status}
 use Rattle.mdb_tool.specs.declared.status.Status.TheVariants.{Done as DoneStatus, BadWords as BadWordsStatus, BadLine as BadLineStatus, NotAStore as NotAStoreStatus, BranchDiffers as BranchDiffersStatus, Damaged as DamagedStatus, Limit as LimitStatus, Read as ReadStatus, Write as WriteStatus, Disk as DiskStatus, NoMemory as NoMemoryStatus}
 use Rattle.mdb_core.specs.declared.fault.DbFault.{DbFault}
-use Rattle.mdb_core.specs.declared.fault.DbFault.TheVariants.{Disk as DiskFault, NotAStore as NotAStoreFault, BranchDiffers as BranchDiffersFault, Damaged as DamagedFault, Failed as FailedFault, TooMany as TooManyFault, TooLarge as TooLargeFault, Full as FullFault, NoMemory as NoMemoryFault}
+use Rattle.mdb_core.specs.declared.fault.DbFault.TheVariants.{Disk as DiskFault, NotAStore as NotAStoreFault, BranchDiffers as BranchDiffersFault, Damaged as DamagedFault, Failed as FailedFault, Unknown as UnknownFault, NotLive as NotLiveFault, TooMany as TooManyFault, TooDeep as TooDeepFault, TooHeavy as TooHeavyFault, TooLarge as TooLargeFault, NotParent as NotParentFault, Full as FullFault, NoMemory as NoMemoryFault}
 use Rattle.store_model.specs.Refusals.{NotAStore, BranchDiffers, Damaged}
 use Rattle.run_model.specs.End.{End, Done, BadWords, BadLine, NotOpened, Limit, Read, Write, Disk, NoMemory}
 use Rattle.script_run.specs.Ends.{limit_of}
@@ -20,7 +20,7 @@ end_of WriteStatus = Write
 end_of DiskStatus = Disk
 end_of NoMemoryStatus = NoMemory
 
--- how a run ends where its store is not opened or read; the last four come from no such call
+-- how a run ends where its store is not opened or read; those behind the fifth come from no such call
 abbrev pub end_of_fault : DbFault → End
 end_of_fault DiskFault = Disk
 end_of_fault (NotAStoreFault file) = NotOpened (NotAStore file)
@@ -28,6 +28,11 @@ end_of_fault (BranchDiffersFault kept asked) = NotOpened (BranchDiffers kept ask
 end_of_fault (DamagedFault file at) = NotOpened (Damaged file at)
 end_of_fault NoMemoryFault = NoMemory
 end_of_fault FailedFault = NoMemory
+end_of_fault UnknownFault = NoMemory
+end_of_fault (NotLiveFault state) = NoMemory
 end_of_fault TooManyFault = NoMemory
+end_of_fault TooDeepFault = NoMemory
+end_of_fault TooHeavyFault = NoMemory
 end_of_fault (TooLargeFault n) = NoMemory
+end_of_fault NotParentFault = NoMemory
 end_of_fault FullFault = NoMemory

@@ -46,7 +46,7 @@ fn close_store<D: Disk>(db: Db, disk: &mut D, status: Status) -> Status
     }
 }
 
-/// Opens the store of a disk, does the lines of the input on it, and prints a line for each commit.
+/// Opens the store of a disk, does the lines of the input on it, and prints what each of them tells.
 pub(crate) fn run_apply<S: Source, K: Sink, D: Disk>(
     alloc: Global,
     branch: Branch,

@@ -10,7 +10,8 @@ usage: mdb FOLDER COMMAND WORDS..
        mdb --help
        mdb --version
 
-FOLDER is a folder, or - where the command uses none.
+FOLDER is a folder that is there, or - where the command uses none. Where a run tells that the disk
+failed, look whether the folder is there, whether you may write in it, and whether there is room.
 
 FACTOR is 2, 4, 16 or 256, the most children that a node of the trie may have.
 KEY and VALUE are hexadecimal digits, or - for no bytes.
@@ -19,8 +20,18 @@ commands:
   root FACTOR      reads lines from standard input and prints the root of the map that they make
                    lines: put KEY VALUE    del KEY    # a comment
   apply FACTOR     does the lines of standard input on the store in FOLDER, a new one where there is
-                   none, and prints a line for each commit: commit NUMBER ROOT
-                   lines: those of root, and commit; what is left at the end is committed too
+                   none, and prints what each tells; a line that can't be done prints: refused WHY
+                   lines: put KEY VALUE     the value is pending
+                          del KEY           a deletion is pending
+                          commit            commits what is pending          commit N ROOT
+                          view PLACE        makes a view of it on PLACE      view N ROOT
+                          take N            commits the view N               taken N ROOT
+                          close N           gives the view N up              closed N
+                          state N           tells how the view N stands      state N STATE
+                          get PLACE KEY     tells what is at KEY             value VALUE, or none
+                          root PLACE        tells the root                   root ROOT
+                          # a comment
+                   what is pending at the end is committed too; PLACE is db, the store, or a view's N
   get FACTOR KEY   prints the value of KEY in the store: value VALUE, or none
 
 examples:

@@ -50,7 +50,14 @@ fn lay_line(digests: &mut Digests, line: Line) -> Result<(), NoMemory>
     ensures { (m : Map) → digests.old ≡ map_digests m → OnOk result (digests.new ≡ map_digests (after_line m (seen_line line))) }
 {
     match line {
-        Line::Skip | Line::Commit => Ok(()),
+        Line::Skip
+        | Line::Commit
+        | Line::View { .. }
+        | Line::Take { .. }
+        | Line::Close { .. }
+        | Line::State { .. }
+        | Line::Get { .. }
+        | Line::Root { .. } => Ok(()),
         Line::Put { key, value } => digests.put(key, value_digest(&value)),
         Line::Del { key } => {
             digests.remove(&key);

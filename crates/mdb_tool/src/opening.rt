@@ -29,9 +29,15 @@ pub(crate) fn status_of_fault(fault: DbFault) -> Status
         DbFault::Damaged { file, at } => Status::Damaged { file, at },
         DbFault::NoMemory => Status::NoMemory,
         // These come from no opening and no look-up in a store that works.
-        DbFault::Failed | DbFault::TooMany | DbFault::TooLarge(_) | DbFault::Full => {
-            Status::NoMemory
-        }
+        DbFault::Failed
+        | DbFault::Unknown
+        | DbFault::NotLive(_)
+        | DbFault::TooMany
+        | DbFault::TooDeep
+        | DbFault::TooHeavy
+        | DbFault::TooLarge(_)
+        | DbFault::NotParent
+        | DbFault::Full => Status::NoMemory,
     }
 }
 

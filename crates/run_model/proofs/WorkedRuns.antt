@@ -1,5 +1,5 @@
 -- The worked runs, by computing.
-use Rattle.std.proofs.Common.{◌≡◌, ℕ, List, [], ◌∷◌, ◌++◌, length, map, replicate, refl, sym, ap, ◌∙◌, Result, Ok, Err, arith}
+use Rattle.std.proofs.Common.{◌≡◌, ℕ, List, [], ◌∷◌, ◌++◌, length, map, replicate, refl, sym, ap, ◌∙◌, Result, Ok, arith}
 use Rattle.std.specs.Prelude.{codes}
 use Rattle.std.specs.FinMap.{empty, entries, entries-insert, len-entries, len-empty}
 use Rattle.std.specs.FinMap.Entries.{put, where_key}
@@ -14,29 +14,25 @@ use Rattle.trie_model.specs.Maps.{Map, entry_item, root}
 use Rattle.trie_model.proofs.EntriesRemoved.{other_key, entries-remove}
 use Rattle.text_model.specs.Lines.{input_limit, lines_within}
 use Rattle.text_model.specs.LineKind.{LineKind}
-use Rattle.text_model.specs.ReadLine.{Batch, Line, Skip, Put, Del, Commit, read_line}
+use Rattle.text_model.specs.ReadLine.{Batch, Line, Put, Del, read_line}
 use Rattle.text_model.specs.MapOfLines.{after_read, after_lines, map_of_lines}
 use Rattle.text_model.specs.Texts.{root_text}
 use Rattle.run_model.specs.Worked.{prints, PrintsOnePair, PrintsZeros, OnePairRuns, EmptyRuns, WrongWordRuns, WrongLineRuns, KeyLimitRuns}
 
 -- ---- the pairs that lines make, as a list that computes
 abbrev pairs_after : List (List ℕ × List ℕ) → Result Line LineKind → List (List ℕ × List ℕ)
-pairs_after es (Err kind) = es
-pairs_after es (Ok Skip) = es
 pairs_after es (Ok (Put key value)) = put bytes_cmp key value es
 pairs_after es (Ok (Del key)) = where_key bytes_cmp (other_key key) es
-pairs_after es (Ok Commit) = es
+pairs_after es other = es
 
 abbrev pairs_of : List (List ℕ × List ℕ) → List (List ℕ) → List (List ℕ × List ℕ)
 pairs_of es [] = es
 pairs_of es (line ∷ lines) = pairs_of (pairs_after es (read_line Batch line)) lines
 
 entries-after : (m : Map) (r : Result Line LineKind) → entries (after_read m r) ≡ pairs_after (entries m) r
-entries-after m (Err kind) = refl
-entries-after m (Ok Skip) = refl
 entries-after m (Ok (Put key value)) = entries-insert nat_list_cmp_total m key value
 entries-after m (Ok (Del key)) = entries-remove m key
-entries-after m (Ok Commit) = refl
+entries-after m other = refl
 
 entries-of : (m : Map) (lines : List (List ℕ)) → entries (after_lines m lines) ≡ pairs_of (entries m) lines
 entries-of m [] = refl

@@ -10,7 +10,8 @@ use Rattle.batch_model.specs.Batch.{Change}
 use Rattle.text_model.specs.Texts.{LimitKind}
 use Rattle.session_model.specs.Session.{Session, Step, Stop, commit, or_limit}
 use Rattle.session_model.specs.Script.{Played, and_then, at_end, text_of}
-use Rattle.session_model.proofs.Playing.{Moves, commit-map, or_limit-ok}
+use Rattle.session_model.proofs.MapsOfScripts.{Moves, commit-map}
+use Rattle.session_model.proofs.Outcomes.{or_limit-ok}
 use Rattle.run_model.specs.End.{End, Done}
 use Rattle.mdb_core.specs.Stores.{DbState}
 use Rattle.script_run.specs.Steps.{IsAt, IsDone, PartRuns, played, still}

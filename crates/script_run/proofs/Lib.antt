@@ -4,7 +4,11 @@ pub mod PrintedText
 pub mod KeptSteps
 pub mod Stopping
 pub mod Parts
+pub mod Written
+pub mod MadeLines
+pub mod Refusals
 pub mod Commits
+pub mod Views
 pub mod QuietLines
 pub mod LastBatch
 pub mod UsedBytes

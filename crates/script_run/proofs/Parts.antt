@@ -9,7 +9,8 @@ use Rattle.batch_model.specs.Batch.{Change}
 use Rattle.text_model.specs.Texts.{LimitKind}
 use Rattle.session_model.specs.Session.{Session, Step, Stop, commit}
 use Rattle.session_model.specs.Script.{Played, then_play, and_then as and_then_play, at_end, ended, text_of}
-use Rattle.session_model.proofs.Playing.{followed, IsAfterSteps, text_of-append}
+use Rattle.session_model.proofs.MapsOfScripts.{IsAfterSteps}
+use Rattle.session_model.proofs.Playing.{followed, text_of-append}
 use Rattle.run_model.specs.End.{End, Done}
 use Rattle.run_model.specs.Script.{HasSteps, end_of_stop, Keeps}
 use Rattle.script_run.specs.Steps.{CameTo, PartRuns, played}

@@ -1,8 +1,10 @@
--- Lines that commit nothing.
-use Rattle.std.proofs.Common.{◌≡◌, ℕ, List, Option, Result, Ok, Err, refl, sym, ◌∙◌, ap, subst}
-use Rattle.std.specs.Prelude.{OnOk, IsErr}
+-- Lines that print nothing, and lines that are not read.
+use Rattle.std.proofs.Common.{◌≡◌, ℕ, List, [], Option, None, Result, Ok, Err, refl, sym, ap, subst}
+use Rattle.std.specs.Prelude.{OnOk, IsErr, String}
+use Rattle.std.specs.Global.{Global}
 use Rattle.disk_model.specs.Files.{Files}
 use Rattle.disk_model.specs.Moments.{Moments}
+use Rattle.trie_model.specs.Maps.{Map}
 use Rattle.batch_model.specs.Batch.{Change, set_change}
 use Rattle.text_model.specs.LineKind.{LineKind}
 use Rattle.text_model.specs.ReadLine.{Line, Script, read_line}
@@ -11,32 +13,26 @@ use Rattle.run_model.specs.End.{BadLine as BadLineEnd, NoMemory}
 use Rattle.run_model.specs.Script.{Keeps as KeepsSteps}
 use Rattle.mdb_base.specs.Batches.{change_of}
 use Rattle.mdb_journal.specs.Moves.{AreSynced}
-use Rattle.mdb_core.specs.Stores.{DbState}
+use Rattle.mdb_core.specs.Stores.{DbState, Keeps}
 use Rattle.script_run.specs.declared.end.SessionEnd.{SessionEnd}
 use Rattle.script_run.specs.declared.end.SessionEnd.TheVariants.{Done as done, BadLine as bad_line, Limit as limit, Damaged as damaged_at, Read as failed_read, Write as failed_write, Disk as failed_disk, NoMemory as no_memory}
-use Rattle.script_run.specs.Ends.{end_of}
-use Rattle.script_run.specs.Steps.{IsAt, IsDone, PartRuns, IsUnread, played}
-use Rattle.script_run.proofs.PrintedText.{nothing}
+use Rattle.script_run.specs.Ends.{end_of, IsTextOf}
+use Rattle.script_run.specs.Steps.{IsAt, IsQuiet, PartRuns, IsUnread, played, session_of}
 use Rattle.mdb_core.proofs.KeptStores.{kept_stands}
 use Rattle.script_run.proofs.KeptFiles.{kept_leaves}
 use Rattle.script_run.proofs.KeptSteps.{idle}
+use Rattle.script_run.proofs.Refusals.{text_quiet}
 use Rattle.script_run.proofs.Stopping.{stopped_runs, refused_runs, memory_no_stop}
 
--- nothing is printed
-pub quiet_done : (next : Session) (db : DbState) (pending : List Change) (files : Files) (taken : Option (List ℕ)) → IsAt next db pending files → IsDone (Ok (next, quiet)) db pending files taken taken
-quiet_done next db pending files taken at = record { next = next; step = quiet; is = refl; at = at; text = nothing taken }
+-- nothing is done
+pub skip_quiet : (m : Map) (db : DbState) (pending : List Change) (files : Files) (r : Result (String Global) SessionEnd) → Keeps db m files → IsTextOf [] r → IsQuiet (Ok (session_of m db pending, quiet)) r db pending files
+skip_quiet m db pending files r keeps of = text_quiet (Ok (session_of m db pending, quiet)) (session_of m db pending) db pending files r [] refl (record { keeps_map = keeps; pending_is = refl; views_are = refl }) of
 
 -- a change is pending more
-pended_at : (s : Session) (key : List ℕ) (value : Option (List ℕ)) (db : DbState) (pending pending' : List Change) (files : Files) → IsAt s db pending files → pending' ≡ set_change pending (change_of key value) → IsAt (pend s key value) db pending' files
-pended_at s key value db pending pending' files at is = record {
-  keeps_map = at.keeps_map;
-  pending_is = is ∙ ap (λ (cs : List Change). set_change cs (change_of key value)) at.pending_is;
-  given_is = at.given_is;
-}
-
-pub pended_done : {E : Type 0} (result : Result (Unit {0}) E) (s : Session) (key : List ℕ) (value : Option (List ℕ)) (db : DbState) (pending pending' : List Change) (files : Files) (taken : Option (List ℕ)) → IsAt s db pending files → OnOk result (pending' ≡ set_change pending (change_of key value)) → OnOk result (IsDone (Ok (pend s key value, quiet)) db pending' files taken taken)
-pended_done (Ok x) s key value db pending pending' files taken at is = quiet_done (pend s key value) db pending' files taken (pended_at s key value db pending pending' files at is)
-pended_done (Err e) s key value db pending pending' files taken at is = tt
+pub pend_quiet : (m : Map) (db : DbState) (pending pending' : List Change) (files : Files) (key : List ℕ) (value : Option (List ℕ)) (r : Result (String Global) SessionEnd) → Keeps db m files → OnOk r (pending' ≡ set_change pending (change_of key value)) → IsTextOf [] r
+    → IsQuiet (Ok (pend (session_of m db pending) key value, quiet)) r db pending' files
+pend_quiet m db pending pending' files key value (Ok t) keeps is of = record { next = pend (session_of m db pending) key value; is = ap (λ (u : List ℕ). Ok (pend (session_of m db pending) key value, record { text = u; committed = None })) (sym of); at = record { keeps_map = keeps; pending_is = is; views_are = refl } }
+pend_quiet m db pending pending' files key value (Err end) keeps is of = subst (λ (e : SessionEnd). IsQuiet (Ok (pend (session_of m db pending) key value, quiet)) (Err e) db pending' files) (sym of) tt
 
 -- the disk was not called
 pub kept_still : (s : Session) (xs : List Step) (db : DbState) (pending : List Change) (files : Files) (taken : Option (List ℕ)) (now : Moments) → IsAt s db pending files → AreSynced files now → KeepsSteps s.map xs taken taken now now

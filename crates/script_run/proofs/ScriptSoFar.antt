@@ -9,12 +9,14 @@ use Rattle.disk_model.specs.Moments.{Meanwhile}
 use Rattle.disk_model.proofs.Meanwhile.{none_yet}
 use Rattle.trie_model.specs.Maps.{Map, limits}
 use Rattle.batch_model.specs.Batch.{Change}
+use Rattle.view_model.specs.Forest.{no_views}
 use Rattle.text_model.specs.Lines.{input_limit, is_overlong, lines_within}
 use Rattle.text_model.specs.Texts.{Input}
 use Rattle.store_model.specs.Journal.{Stands}
 use Rattle.session_model.specs.Session.{Session, Step, Stop, BadLine, Limit, start, step}
 use Rattle.session_model.specs.Script.{Played, then_play, play, ended, script, text_of, after_steps}
-use Rattle.session_model.proofs.Playing.{followed, play-done, play-more, play-map, text_of-append}
+use Rattle.session_model.proofs.MapsOfScripts.{play-map}
+use Rattle.session_model.proofs.Playing.{followed, play-done, play-more, text_of-append}
 use Rattle.run_model.specs.Outside.{Outside, DiskSeen, outside}
 use Rattle.run_model.specs.End.{End, Done, BadLine as BadLineEnd, Limit as LimitEnd, Read, NoMemory}
 use Rattle.run_model.specs.Script.{HasSteps, IsStop, Keeps as KeepsSteps, DecideNothing, ScriptRuns}
@@ -68,7 +70,7 @@ module _ (w : ℕ) (m : Map) (images : Type 0) (first : Place) where
     pub kept : images → Meanwhile (HasSteps m (play w 1 (start m) front).steps 0) first.disk.moments here.disk.moments
 
   -- before the first line
-  started : (bytes : List ℕ) (pending : List Change) (ahead : Stream) → Keeps first.db m first.disk.files → first.db.given ≡ 0 → pending ≡ [] → ahead.held ≡ [] → ahead.allowed ≡ input_limit → ComesTo bytes 1 (record first { pending = pending }) ahead bytes
+  started : (bytes : List ℕ) (pending : List Change) (ahead : Stream) → Keeps first.db m first.disk.files → first.db.forest ≡ no_views → pending ≡ [] → ahead.held ≡ [] → ahead.allowed ≡ input_limit → ComesTo bytes 1 (record first { pending = pending }) ahead bytes
   started bytes pending ahead keeps given none held allowed = record {
     front = [];
     goes = refl;
@@ -76,7 +78,7 @@ module _ (w : ℕ) (m : Map) (images : Type 0) (first : Place) where
     lines = rw (held, allowed) refl;
     fits = rw (held, allowed) refl;
     used = none_used w m bytes ahead held allowed;
-    at = record { keeps_map = keeps; pending_is = none; given_is = given };
+    at = record { keeps_map = keeps; pending_is = none; views_are = given };
     text = nothing first.taken;
     kept = λ _. none_yet (HasSteps m [] 0) first.disk.moments first.disk.moments refl;
   }
@@ -221,7 +223,7 @@ module _ (w : ℕ) (m : Map) (images : Type 0) (first : Place) where
   SoFar (Some bytes) n here ahead (Some left) = ComesTo bytes n here ahead left
 
   -- before the first line
-  pub at_start : (left : Option (List ℕ)) (pending : List Change) (ahead : Stream) → Keeps first.db m first.disk.files → first.db.given ≡ 0 → pending ≡ [] → ahead.held ≡ [] → ahead.allowed ≡ input_limit → SoFar left 1 (record first { pending = pending }) ahead left
+  pub at_start : (left : Option (List ℕ)) (pending : List Change) (ahead : Stream) → Keeps first.db m first.disk.files → first.db.forest ≡ no_views → pending ≡ [] → ahead.held ≡ [] → ahead.allowed ≡ input_limit → SoFar left 1 (record first { pending = pending }) ahead left
   at_start None pending ahead keeps given none held allowed = tt
   at_start (Some bytes) pending ahead keeps given none held allowed = started bytes pending ahead keeps given none held allowed
 

@@ -11,7 +11,8 @@ use Rattle.text_model.specs.Lines.{input_limit, lines_within}
 use Rattle.text_model.specs.Texts.{LimitKind}
 use Rattle.session_model.specs.Session.{Session, Step, Stop, start, commit}
 use Rattle.session_model.specs.Script.{Played, and_then, at_end, ended, script}
-use Rattle.session_model.proofs.Playing.{followed, play-map}
+use Rattle.session_model.proofs.MapsOfScripts.{play-map}
+use Rattle.session_model.proofs.Playing.{followed}
 use Rattle.run_model.specs.Outside.{DiskSeen, outside}
 use Rattle.run_model.specs.End.{End, Read}
 use Rattle.run_model.specs.Script.{HasSteps, Keeps as KeepsSteps, ScriptRuns}

@@ -9,6 +9,8 @@ mod end;
 mod line_step;
 mod pending;
 mod script;
+mod telling;
+mod viewing;
 
 pub use end::SessionEnd;
 pub use script::session;

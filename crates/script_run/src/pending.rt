@@ -8,6 +8,7 @@ use mdb_base::{Batch, NoMemory};
 use std::alloc::Global;
 use std::collections::BTreeMap;
 use std::marker::Model;
+use std::mem;
 
 /// Changes that wait for their commit, one for a key. They lie in a tree: their keys come in any
 /// order, and a batch would move all that stand above a new one.
@@ -49,6 +50,14 @@ impl Pending {
     {
         self.changes.insert(key, value)?;
         Ok(())
+    }
+
+    /// Takes all changes out, as a batch. Without memory for it they are lost.
+    pub(crate) fn take(&mut self, alloc: Global) -> Result<Batch, NoMemory>
+        ensures batch { IfOk result (λ batch. batch ≡ self.old) }
+        ensures none { self.new ≡ [] }
+    {
+        mem::replace(self, Pending::new(alloc)).into_batch(alloc)
     }
 
     /// The batch of these changes.

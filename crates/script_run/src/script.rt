@@ -6,6 +6,7 @@ ghost use Rattle.disk_model.specs.Moments.{Meanwhile};
 ghost use Rattle.disk_model.specs.Words.{TellsContents, TellsImages};
 ghost use Rattle.trie_model.specs.Maps.{Map};
 ghost use Rattle.text_model.specs.Lines.{input_limit};
+ghost use Rattle.view_model.specs.Forest.{no_views};
 ghost use Rattle.session_model.specs.Session.{Session};
 ghost use Rattle.session_model.specs.Script.{script, at_end};
 ghost use Rattle.run_model.specs.Outside.{outside, disk_seen};
@@ -17,7 +18,7 @@ ghost use Rattle.script_run.specs.Ends.{end_of, reader_end, StepCause, LinesCaus
 ghost use Rattle.script_run.specs.Steps.{IsAt, PartRuns, AllDone, all_lines, still};
 
 use crate::SessionEnd;
-use crate::committing::commit;
+use crate::committing::commit_and_print;
 use crate::line_step::step;
 use crate::pending::Pending;
 use batch_text::{LineReader, ReaderFault};
@@ -51,15 +52,15 @@ fn run_lines<S: Source, K: Sink, D: Disk>(
 ) -> Result<(), SessionEnd>
     requires works { is_failed db.old ≡ false }
     requires none { pending.old ≡ [] }
-    ensures done { TellsContents D.words.tells → (m : Map) → Keeps db.old m (D.words.seen disk.old) → db.old.given ≡ 0
+    ensures done { TellsContents D.words.tells → (m : Map) → Keeps db.old m (D.words.seen disk.old) → db.old.forest ≡ no_views
         → OnOk result (IfSome (S.left input.old) (λ bytes. AllDone db.old.width m bytes db.new pending.new (D.words.seen disk.new) (K.taken out.old) (K.taken out.new))) }
-    ensures stopped { TellsContents D.words.tells → (m : Map) → Keeps db.old m (D.words.seen disk.old) → db.old.given ≡ 0
+    ensures stopped { TellsContents D.words.tells → (m : Map) → Keeps db.old m (D.words.seen disk.old) → db.old.forest ≡ no_views
         → let before = outside (S.left input.old) (S.faults input.old) (K.taken out.old) (K.faults out.old) (disk_seen D.words disk.old) in
         let after = outside (S.left input.new) (S.faults input.new) (K.taken out.new) (K.faults out.new) (disk_seen D.words disk.new) in
         IfErr result (λ end. IfSome (S.left input.old) (λ bytes. ScriptRuns db.old.width m bytes before after (end_of end))) }
-    ensures meanwhile { TellsImages D.words.tells → (m : Map) → Keeps db.old m (D.words.seen disk.old) → AreSynced (D.words.seen disk.old) (D.words.moments disk.old) → db.old.given ≡ 0
+    ensures meanwhile { TellsImages D.words.tells → (m : Map) → Keeps db.old m (D.words.seen disk.old) → AreSynced (D.words.seen disk.old) (D.words.moments disk.old) → db.old.forest ≡ no_views
         → OnOk result (IfSome (S.left input.old) (λ bytes. Meanwhile (HasSteps m (all_lines db.old.width m bytes).steps 0) (D.words.moments disk.old) (D.words.moments disk.new))) }
-    ensures kept { TellsImages D.words.tells → (m : Map) → Keeps db.old m (D.words.seen disk.old) → AreSynced (D.words.seen disk.old) (D.words.moments disk.old) → db.old.given ≡ 0
+    ensures kept { TellsImages D.words.tells → (m : Map) → Keeps db.old m (D.words.seen disk.old) → AreSynced (D.words.seen disk.old) (D.words.moments disk.old) → db.old.forest ≡ no_views
         → OnErr result (IfSome (S.left input.old) (λ bytes. KeepsSteps m (script db.old.width m bytes).steps (K.taken out.old) (K.taken out.new) (D.words.moments disk.old) (D.words.moments disk.new))) }
     ensures synced { TellsImages D.words.tells → AreSynced (D.words.seen disk.old) (D.words.moments disk.old) → OnOk result (AreSynced (D.words.seen disk.new) (D.words.moments disk.new)) }
     ensures works { OnOk result (is_failed db.new ≡ false) }
@@ -111,7 +112,7 @@ fn finish<K: Sink, D: Disk>(
     let Ok(batch) = pending.into_batch(alloc) else {
         return SessionEnd::NoMemory;
     };
-    match commit(alloc, db, batch, out, disk) {
+    match commit_and_print(alloc, db, batch, out, disk) {
         Ok(()) => SessionEnd::Done,
         Err(end) => end,
     }
@@ -128,11 +129,11 @@ pub fn session<S: Source, K: Sink, D: Disk>(
     disk: &mut D,
 ) -> SessionEnd
     requires { is_failed db.old ≡ false }
-    ensures script { TellsContents D.words.tells → (m : Map) → Keeps db.old m (D.words.seen disk.old) → db.old.given ≡ 0
+    ensures script { TellsContents D.words.tells → (m : Map) → Keeps db.old m (D.words.seen disk.old) → db.old.forest ≡ no_views
         → let before = outside (S.left input.old) (S.faults input.old) (K.taken out.old) (K.faults out.old) (disk_seen D.words disk.old) in
         let after = outside (S.left input.new) (S.faults input.new) (K.taken out.new) (K.faults out.new) (disk_seen D.words disk.new) in
         IfSome (S.left input.old) (λ bytes. ScriptRuns db.old.width m bytes before after (end_of result)) }
-    ensures kept { TellsImages D.words.tells → (m : Map) → Keeps db.old m (D.words.seen disk.old) → AreSynced (D.words.seen disk.old) (D.words.moments disk.old) → db.old.given ≡ 0
+    ensures kept { TellsImages D.words.tells → (m : Map) → Keeps db.old m (D.words.seen disk.old) → AreSynced (D.words.seen disk.old) (D.words.moments disk.old) → db.old.forest ≡ no_views
         → IfSome (S.left input.old) (λ bytes. KeepsSteps m (script db.old.width m bytes).steps (K.taken out.old) (K.taken out.new) (D.words.moments disk.old) (D.words.moments disk.new)) }
     ensures end { result ≡ SessionEnd.Done → AtEnd (S.left input.new) }
     ensures limit { result ≡ SessionEnd.Limit Input → IfSome (S.left input.old) (λ bytes. input_limit < length bytes) }

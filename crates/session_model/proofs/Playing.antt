@@ -1,21 +1,17 @@
--- Lines that are played one after another: in two parts, and the map that they lead to.
-use Rattle.std.proofs.Common.{◌≡◌, ℕ, suc, ◌+◌, Bool, true, false, cond, List, [], ◌∷◌, ◌++◌, length, take, refl, sym, ap, ◌∙◌, Option, Some, None, Result, Ok, Err, arith, append_assoc}
+-- Lines that are played one after another: in two parts, and what holds of each of their steps.
+use Rattle.std.proofs.Common.{◌≡◌, ℕ, zero, suc, ◌+◌, Bool, true, false, List, [], ◌∷◌, ◌++◌, length, take, refl, sym, ap, ◌∙◌, Option, Some, None, Result, Ok, Err, arith, append_assoc}
 use Rattle.std.specs.Result.{IfOk}
 use Rattle.std.proofs.Math.Seq.{take-append_seam}
 use Rattle.std.proofs.lemmas.Grind.{flat_map-append}
 use Rattle.std.proofs.lemmas.List.{append-nil}
-use Rattle.std.specs.Prelude.{nat_lt, nat_le}
-use Rattle.std.specs.FinMap as map_of
+use Rattle.std.specs.List.{AllByRecursion}
+use Rattle.std.specs.Prelude.{nat_le}
 use Rattle.trie_model.specs.Maps.{Map}
-use Rattle.batch_model.specs.Batch.{Change, after_batch, batch_form}
-use Rattle.text_model.specs.LineKind.{LineKind}
-use Rattle.text_model.specs.ReadLine.{Line, Skip, Put, Del, Commit, Script, read_line}
-use Rattle.text_model.specs.Texts.{LimitKind, Input, Pairs, Batch}
+use Rattle.batch_model.specs.Batch.{Change}
+use Rattle.text_model.specs.Texts.{LimitKind, Input}
 use Rattle.text_model.specs.Lines.{input_limit, lines_within}
-use Rattle.session_model.specs.Limits.{pairs_limit, payload_limit, number_limit}
-use Rattle.session_model.specs.Session.{Session, Step, Stop, Limit, start, committed, commit_step, commit, or_limit, read_step, step}
+use Rattle.session_model.specs.Session.{Session, Step, Stop, Limit, start, commit, step}
 use Rattle.session_model.specs.Script.{Played, then_play, play, and_then, at_end, ended, script, text_of, after_step, after_steps}
-use Rattle.session_model.specs.Laws.{StepsMakeTheMap}
 
 -- ---- one line
 
@@ -154,68 +150,46 @@ text_of-front xs ys = ap text_of (take-append_seam xs ys)
 pub after_steps-front : (m : Map) (xs ys : List Step) → after_steps m (take (length xs) (xs ++ ys)) ≡ after_steps m xs
 after_steps-front m xs ys = ap (after_steps m) (take-append_seam xs ys)
 
--- ---- the map
+-- ---- what holds of each step
 
--- the map after a line is that after its step
-abbrev pub Moves : Map → Session × Step → Type 0
-Moves m next = next.0.map ≡ after_step m next.1.committed
+-- of steps and of one more
+pub all_and : (P : Step → Type 0) (xs : List Step) (x : Step) → AllByRecursion P xs → P x → AllByRecursion P (xs ++ x ∷ [])
+all_and P [] x h p = (p, tt)
+all_and P (y ∷ xs) x h p = (h.0, all_and P xs x h.1 p)
 
--- the map at which lines stand is that after their steps
-abbrev pub IsAfterSteps : Map → Played → Type 0
-IsAfterSteps m p = p.session.map ≡ after_steps m p.steps
+-- of the first of them
+pub all_front : (P : Step → Type 0) (n : ℕ) (xs : List Step) → AllByRecursion P xs → AllByRecursion P (take n xs)
+all_front P zero xs h = tt
+all_front P (suc n) [] h = tt
+all_front P (suc n) (x ∷ xs) h = (h.0, all_front P n xs h.1)
 
--- a choice of two results, of which each has a value with a property or none
-pub one_of : {E : Type 0} (P : Session × Step → Type 0) (test : Bool) (x y : Result (Session × Step) E) → IfOk x P → IfOk y P → IfOk (cond test x y) P
-one_of P true x y h k = h
-one_of P false x y h k = k
+module _ (P : Step → Type 0) (w : ℕ) (lines_have : (n : ℕ) (s : Session) (line : List ℕ) → IfOk (step w n s line) (λ (next : Session × Step). P next.1)) where
+  -- what the step of each line has, the steps of lines have
+  pub play-all : (n : ℕ) (s : Session) (lines : List (List ℕ)) → AllByRecursion P (play w n s lines).steps
+  play-all n s [] = tt
+  play-all n s (line ∷ lines) = go (step w n s line) (lines_have n s line) (λ t. play-all (suc n) t lines)
+    where
+      go : (r : Result (Session × Step) Stop) → IfOk r (λ (next : Session × Step). P next.1) → ((t : Session) → AllByRecursion P (play w (suc n) t lines).steps) → AllByRecursion P (then_play s r (λ (t : Session). play w (suc n) t lines)).steps
+      go (Err stop) h later = tt
+      go (Ok next) h later = (h, later next.0)
 
-pub or_limit-ok : (P : Session × Step → Type 0) (r : Result (Session × Step) LimitKind) → IfOk r P → IfOk (or_limit r) P
-or_limit-ok P (Ok next) h = h
-or_limit-ok P (Err kind) h = tt
+module _ (P : Step → Type 0) (w : ℕ) (commits_have : (s : Session) → IfOk (commit w s) (λ (next : Session × Step). P next.1)) where
+  last-all : (p : Played) (r : Result (Session × Step) LimitKind) → AllByRecursion P p.steps → IfOk r (λ (next : Session × Step). P next.1) → AllByRecursion P (and_then p r).steps
+  last-all p (Ok next) h last = all_and P p.steps next.1 h last
+  last-all p (Err kind) h last = h
 
--- what holds of a session and its step after a commit holds wherever a commit is within the limits
-pub of_commit : (P : Session × Step → Type 0) (w : ℕ) (s : Session) → P (committed s, commit_step w s) → IfOk (commit w s) P
-of_commit P w s h =
-    one_of P (nat_le number_limit s.given) (Err Batch) _ tt
-    (one_of P (nat_lt payload_limit (length (batch_form s.pending))) (Err Batch) _ tt
-    (one_of P (nat_lt pairs_limit (map_of.len (after_batch s.map s.pending))) (Err Pairs) (Ok (committed s, commit_step w s)) tt h))
+  pub ended-all : (p : Played) (stop : Option Stop) (within : Bool) → AllByRecursion P p.steps → AllByRecursion P (ended w p stop within).steps
+  ended-all p (Some stop) within h = h
+  ended-all p None false h = h
+  ended-all p None true h = go p.session.pending
+    where
+      go : (cs : List Change) → AllByRecursion P (at_end w p cs).steps
+      go [] = h
+      go (c ∷ cs) = last-all p (commit w p.session) h (commits_have p.session)
 
-pub commit-map : (w : ℕ) (s : Session) → IfOk (commit w s) (Moves s.map)
-commit-map w s = of_commit (Moves s.map) w s refl
-
-read_step-map : (w n : ℕ) (s : Session) (r : Result Line LineKind) → IfOk (read_step w n s r) (Moves s.map)
-read_step-map w n s (Err kind) = tt
-read_step-map w n s (Ok Skip) = refl
-read_step-map w n s (Ok (Put key value)) = refl
-read_step-map w n s (Ok (Del key)) = refl
-read_step-map w n s (Ok Commit) = or_limit-ok (Moves s.map) (commit w s) (commit-map w s)
-
-pub step-map : (w n : ℕ) (s : Session) (line : List ℕ) → IfOk (step w n s line) (Moves s.map)
-step-map w n s line = read_step-map w n s (read_line Script line)
-
-pub play-map : (w n : ℕ) (s : Session) (lines : List (List ℕ)) → IsAfterSteps s.map (play w n s lines)
-play-map w n s [] = refl
-play-map w n s (line ∷ lines) = go (step w n s line) (step-map w n s line) (λ t. play-map w (suc n) t lines)
-  where
-    go : (r : Result (Session × Step) Stop) → IfOk r (Moves s.map) → ((t : Session) → IsAfterSteps t.map (play w (suc n) t lines)) → IsAfterSteps s.map (then_play s r (λ (t : Session). play w (suc n) t lines))
-    go (Err stop) moves later = refl
-    go (Ok next) moves later = later next.0 ∙ ap (λ (m : Map). after_steps m (play w (suc n) next.0 lines).steps) moves
-
-pub and_then-map : (m : Map) (p : Played) (r : Result (Session × Step) LimitKind) → IsAfterSteps m p → IfOk r (Moves p.session.map) → IsAfterSteps m (and_then p r)
-and_then-map m p (Ok next) is moves = moves ∙ ap (λ (k : Map). after_step k next.1.committed) is ∙ sym (after_steps-append m p.steps (next.1 ∷ []))
-and_then-map m p (Err kind) is moves = is
-
-pub at_end-map : (w : ℕ) (m : Map) (p : Played) (cs : List Change) → IsAfterSteps m p → IsAfterSteps m (at_end w p cs)
-at_end-map w m p [] is = is
-at_end-map w m p (c ∷ cs) is = and_then-map m p (commit w p.session) is (commit-map w p.session)
-
-pub ended-map : (w : ℕ) (m : Map) (p : Played) (stop : Option Stop) (within : Bool) → IsAfterSteps m p → IsAfterSteps m (ended w p stop within)
-ended-map w m p (Some stop) within is = is
-ended-map w m p None false is = is
-ended-map w m p None true is = at_end-map w m p p.session.pending is
-
--- the map at which a script stands is that after its steps
-pub steps_make_the_map : StepsMakeTheMap
-steps_make_the_map w m bytes =
+-- and so do those of a script
+pub script-all : (P : Step → Type 0) (w : ℕ) → ((n : ℕ) (s : Session) (line : List ℕ) → IfOk (step w n s line) (λ (next : Session × Step). P next.1)) → ((s : Session) → IfOk (commit w s) (λ (next : Session × Step). P next.1))
+    → (m : Map) (bytes : List ℕ) → AllByRecursion P (script w m bytes).steps
+script-all P w lines_have commits_have m bytes =
     let p = play w 1 (start m) (lines_within input_limit bytes) in
-    ended-map w m p p.stop (nat_le (length bytes) input_limit) (play-map w 1 (start m) (lines_within input_limit bytes))
+    ended-all P w commits_have p p.stop (nat_le (length bytes) input_limit) (play-all P w lines_have 1 (start m) (lines_within input_limit bytes))

@@ -1,4 +1,5 @@
 pub mod Limits
+pub mod Refusals
 pub mod Session
 pub mod Script
 pub mod Laws

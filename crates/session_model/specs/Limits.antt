@@ -1,4 +1,4 @@
--- The limits that end a script.
+-- The limits that end a script. How many numbers are given to views and batches at most stands in `view_model`.
 use Rattle.std.specs.Prelude.{ℕ}
 
 -- how many pairs a store has at most
@@ -8,7 +8,3 @@ pairs_limit = 1000000
 -- how many bytes the payload of a batch has at most
 abbrev pub payload_limit : ℕ
 payload_limit = 33554432
-
--- how many numbers are given to batches at most, from one opening on
-abbrev pub number_limit : ℕ
-number_limit = 1000000

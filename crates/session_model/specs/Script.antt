@@ -1,6 +1,6 @@
 -- A script: the lines of an input, one after another.
-use Rattle.std.specs.Prelude.{ℕ, suc, Bool, true, false, nat_le, List, [], ◌∷◌, ◌++◌, length, take, Option, Some, None, Result, Ok, Err}
-use Rattle.std.specs.List.{flat_map}
+use Rattle.std.specs.Prelude.{ℕ, suc, ◌-◌, Bool, true, false, nat_lt, nat_le, if◌then◌else◌, List, [], ◌∷◌, ◌++◌, length, take, Option, Some, None, Result, Ok, Err}
+use Rattle.std.specs.List.{flat_map, filter_map, cons_option}
 use Rattle.trie_model.specs.Maps.{Map}
 use Rattle.batch_model.specs.Batch.{Change, after_batch}
 use Rattle.text_model.specs.Lines.{input_limit, settled_lines, lines_within}
@@ -57,6 +57,10 @@ decided w m front = decided_of (play w 1 (start m) (settled_lines (take input_li
 abbrev pub text_of : List Step → List ℕ
 text_of steps = flat_map (λ (s : Step). s.text) steps
 
+-- the batches that were committed, directly or by a view
+abbrev pub batches_of : List Step → List (List Change)
+batches_of steps = filter_map (λ (s : Step). s.committed) steps
+
 abbrev pub after_step : Map → Option (List Change) → Map
 after_step m None = m
 after_step m (Some batch) = after_batch m batch
@@ -65,3 +69,29 @@ after_step m (Some batch) = after_batch m batch
 abbrev pub after_steps : Map → List Step → Map
 after_steps m [] = m
 after_steps m (s ∷ steps) = after_steps (after_step m s.committed) steps
+
+-- ---- what was acknowledged
+
+-- the batches of which the first n bytes of the text have the whole line, be it that of a commit or of a view
+abbrev pub acknowledged : ℕ → List Step → List (List Change)
+acknowledged n [] = []
+acknowledged n (s ∷ steps) = if nat_lt n (length s.text) then [] else cons_option s.committed (acknowledged (n - length s.text) steps)
+
+-- ---- a whole session
+
+-- the maps of a store: that before batches, and that after each of them
+abbrev pub maps_from : Map → List (List Change) → List Map
+maps_from m [] = m ∷ []
+maps_from m (batch ∷ batches) = m ∷ maps_from (after_batch m batch) batches
+
+-- what is known of a store after a script: the text that was printed, its maps, and the generation of its journal
+pub record Told : Type 0 where
+  pub text : List ℕ
+  pub maps : List Map
+  pub generation : ℕ
+
+-- the session of a whole input, on a store of this map and generation; no line makes a new generation
+abbrev pub session : ℕ → Map → ℕ → List ℕ → Told
+session w m generation bytes =
+    let steps = (script w m bytes).steps in
+    record { text = text_of steps; maps = maps_from m (batches_of steps); generation = generation }

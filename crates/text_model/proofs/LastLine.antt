@@ -1,5 +1,5 @@
 -- What a map that lines make has at a key.
-use Rattle.std.proofs.Common.{◌≡◌, ◌≢◌, ℕ, true, false, cond, List, [], ◌∷◌, ◌++◌, refl, sym, ap, ◌∙◌, Some, None, Result, Ok, Err, Ordering, Less, Equal, Greater}
+use Rattle.std.proofs.Common.{◌≡◌, ◌≢◌, ℕ, true, false, cond, List, [], ◌∷◌, ◌++◌, refl, sym, ap, ◌∙◌, Some, None, Result, Ok, Ordering, Less, Equal, Greater}
 use Rattle.std.specs.Ordering.{is_eq, eq_by_cmp}
 use Rattle.std.specs.Cmp.{tied_itself}
 use Rattle.std.specs.FinMap.{get, empty, get-insert, get-remove, get-empty}
@@ -8,7 +8,7 @@ use Rattle.base_model.specs.Bytes.{bytes_cmp}
 use Rattle.trie_model.specs.Maps.{Map}
 use Rattle.trie_model.proofs.Entries.{tied_equal}
 use Rattle.text_model.specs.LineKind.{LineKind}
-use Rattle.text_model.specs.ReadLine.{Batch, Line, Skip, Put, Del, Commit, read_line}
+use Rattle.text_model.specs.ReadLine.{Batch, Line, Put, Del, read_line}
 use Rattle.text_model.specs.MapOfLines.{after_read, after_lines}
 use Rattle.text_model.specs.Laws.{IsSilentOn, AreSilentOn, LastLineCounts}
 
@@ -26,11 +26,9 @@ itself k = ap is_eq (tied_itself nat_list_cmp_total k)
 
 -- a line that says nothing of a key leaves it alone
 silent_line : (m : Map) (k : List ℕ) (o : Result Line LineKind) → IsSilentOn k o → get (after_read m o) k ≡ get m k
-silent_line m k (Err kind) h = refl
-silent_line m k (Ok Skip) h = refl
 silent_line m k (Ok (Put key value)) h = get-insert nat_list_cmp_total m key value k ∙ ap (λ b. cond b (Some value) (get m k)) (untied k key h)
 silent_line m k (Ok (Del key)) h = get-remove nat_list_cmp_total m key k ∙ ap (λ b. cond b None (get m k)) (untied k key h)
-silent_line m k (Ok Commit) h = refl
+silent_line m k other h = refl
 
 silent_lines : (m : Map) (k : List ℕ) (lines : List (List ℕ)) → AreSilentOn k lines → get (after_lines m lines) k ≡ get m k
 silent_lines m k [] h = refl

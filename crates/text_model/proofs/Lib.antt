@@ -5,7 +5,8 @@ pub mod MapOfLines
 pub mod LastLine
 pub mod PrintedBytes
 pub mod RootText
-pub mod CommitText
+pub mod NumberedText
 pub mod ValueText
+pub mod NumberWords
 pub mod WorkedLines
 pub mod WorkedTexts

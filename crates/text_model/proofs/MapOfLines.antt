@@ -21,7 +21,7 @@ use Rattle.text_model.specs.Lines.{is_overlong}
 use Rattle.text_model.specs.Words.{words_of, hex_word}
 use Rattle.base_model.specs.Fields.{◌>>=◌}
 use Rattle.text_model.specs.LineKind.{LineKind, TooLong, Word, LongKey, LongValue}
-use Rattle.text_model.specs.ReadLine.{InputKind, Batch, Script, Line, Skip, Put, Del, Commit, is_comment, at_most, key_word, value_word, put_words, del_words, batch_words, commit_words, line_of_words, read_line}
+use Rattle.text_model.specs.ReadLine.{Batch, Line, Skip, Put, Del, is_comment, at_most, key_word, value_word, one_word, two_words, put_line, del_line, line_of_words, read_line}
 use Rattle.text_model.specs.MapOfLines.{after_read, after_lines}
 use Rattle.text_model.specs.Laws.{LinesMakeMaps}
 
@@ -108,18 +108,15 @@ value_within word = within value_limit LongValue (hex_word word) (hex_word_bytes
 -- ---- what lines do
 -- what a line puts is a pair within the limits
 abbrev PutsPair : Result Line LineKind → Type 0
-PutsPair (Err kind) = Unit {0}
-PutsPair (Ok Skip) = Unit {0}
 PutsPair (Ok (Put key value)) = IsPair limits (key, value)
-PutsPair (Ok (Del key)) = Unit {0}
-PutsPair (Ok Commit) = Unit {0}
+PutsPair other = Unit {0}
 
 put_puts : (key value : Result (List ℕ) LineKind) → IfOk key (AreBytesWithin key_limit) → IfOk value (AreBytesWithin value_limit) → PutsPair (key >>= (λ k. value >>= (λ v. Ok (Put k v))))
 put_puts (Err kind) value k v = tt
 put_puts (Ok key) (Err kind) k v = tt
 put_puts (Ok key) (Ok value) k v = record { key_bytes = k.0; value_bytes = v.0; key_short = k.1; value_short = v.1 }
 
-puts_put : (words : List (List ℕ)) → PutsPair (put_words words)
+puts_put : (words : List (List ℕ)) → PutsPair (two_words put_line words)
 puts_put [] = tt
 puts_put (key ∷ []) = tt
 puts_put (key ∷ value ∷ []) = put_puts (key_word key) (value_word value) (key_within key) (value_within value)
@@ -129,7 +126,7 @@ del_puts : (key : Result (List ℕ) LineKind) → PutsPair (key >>= (λ k. Ok (D
 del_puts (Err kind) = tt
 del_puts (Ok key) = tt
 
-dels_put : (words : List (List ℕ)) → PutsPair (del_words words)
+dels_put : (words : List (List ℕ)) → PutsPair (one_word del_line words)
 dels_put [] = tt
 dels_put (key ∷ []) = del_puts (key_word key)
 dels_put (key ∷ word ∷ words) = tt
@@ -138,31 +135,21 @@ one_of : (b : Bool) (x y : Result Line LineKind) → PutsPair x → PutsPair y �
 one_of true x y p q = p
 one_of false x y p q = q
 
-batch_puts : (command : List ℕ) (words : List (List ℕ)) → PutsPair (batch_words command words)
-batch_puts command words =
-    one_of (bytes_eq command (codes "put")) (put_words words) (cond (bytes_eq command (codes "del")) (del_words words) (Err Word)) (puts_put words)
-    (one_of (bytes_eq command (codes "del")) (del_words words) (Err Word) (dels_put words) tt)
-
-commits_put : (words : List (List ℕ)) → PutsPair (commit_words words)
-commits_put [] = tt
-commits_put (word ∷ words) = tt
-
-words_put : (kind : InputKind) (words : List (List ℕ)) → PutsPair (line_of_words kind words)
-words_put kind [] = tt
-words_put Batch (command ∷ words) = batch_puts command words
-words_put Script (command ∷ words) = one_of (bytes_eq command (codes "commit")) (commit_words words) (batch_words command words) (commits_put words) (batch_puts command words)
+words_put : (words : List (List ℕ)) → PutsPair (line_of_words Batch words)
+words_put [] = tt
+words_put (command ∷ words) =
+    one_of (bytes_eq command (codes "put")) (two_words put_line words) (cond (bytes_eq command (codes "del")) (one_word del_line words) (Err Word)) (puts_put words)
+    (one_of (bytes_eq command (codes "del")) (one_word del_line words) (Err Word) (dels_put words) tt)
 
 line_puts : (line : List ℕ) → PutsPair (read_line Batch line)
 line_puts line =
     one_of (is_overlong line) (Err TooLong) (cond (is_comment line) (Ok Skip) (line_of_words Batch (words_of line))) tt
-    (one_of (is_comment line) (Ok Skip) (line_of_words Batch (words_of line)) tt (words_put Batch (words_of line)))
+    (one_of (is_comment line) (Ok Skip) (line_of_words Batch (words_of line)) tt (words_put (words_of line)))
 
 line_map : (m : Map) (o : Result Line LineKind) → PutsPair o → IsMap limits m → IsMap limits (after_read m o)
-line_map m (Err kind) p h = h
-line_map m (Ok Skip) p h = h
 line_map m (Ok (Put key value)) p h = inserted_map m key value p h
 line_map m (Ok (Del key)) p h = removed_map m key h
-line_map m (Ok Commit) p h = h
+line_map m other p h = h
 
 lines_map : (m : Map) (lines : List (List ℕ)) → IsMap limits m → IsMap limits (after_lines m lines)
 lines_map m [] h = h

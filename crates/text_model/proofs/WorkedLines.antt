@@ -1,7 +1,7 @@
 -- The worked lines, by computing.
 use Rattle.std.proofs.Common.{refl}
 use Rattle.hex.specs.Hex.{decode_pairs}
-use Rattle.text_model.specs.WorkedLines.{GoodLines, BadLines, ScriptLines}
+use Rattle.text_model.specs.WorkedLines.{GoodLines, BadLines, ScriptLines, BadScriptLines}
 
 pub good_lines : GoodLines
 unfolding decode_pairs
@@ -13,4 +13,8 @@ bad_lines = (refl, refl, refl, refl, refl, refl, refl, refl, refl, refl, refl, r
 
 pub script_lines : ScriptLines
 unfolding decode_pairs
-script_lines = (refl, refl, refl, refl, refl, refl, refl, refl, refl, refl, refl, refl, refl)
+script_lines = (refl, refl, refl, refl, refl, refl, refl, refl, refl, refl, refl, refl, refl, refl, refl)
+
+pub bad_script_lines : BadScriptLines
+unfolding decode_pairs
+bad_script_lines = (refl, refl, refl, refl, refl, refl, refl, refl, refl, refl, refl, refl, refl, refl, refl, refl, refl, refl, refl, refl, refl, refl, refl)

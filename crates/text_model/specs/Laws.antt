@@ -1,5 +1,5 @@
 -- Laws of lines: which are good, what they make, which of them is the first bad one, and which of them are read of a long input.
-use Rattle.std.specs.Prelude.{◌≢◌, Bool, true, false, ◌≡◌, ◌↔◌, ℕ, ◌+◌, ◌<◌, ◌≤◌, ◌^◌, List, ◌∷◌, ◌++◌, length, Option, Some, None, IfSome, Result, Ok, Err, IsTrue}
+use Rattle.std.specs.Prelude.{◌≢◌, Bool, true, false, ◌≡◌, ◌↔◌, ℕ, ◌+◌, ◌<◌, ◌≤◌, ◌^◌, List, ◌∷◌, ◌++◌, length, Option, Some, None, IfSome, Result, Ok, IsTrue, decimal}
 use Rattle.std.specs.List.{AllByRecursion}
 use Rattle.std.specs.FinMap.{get}
 use Rattle.std.specs.Str.Lines.{lines}
@@ -7,11 +7,11 @@ use Rattle.base_model.specs.Bytes.{AreBytes}
 use Rattle.trie_model.specs.Maps.{Map, IsMap, limits, root}
 use Rattle.text_model.specs.Lines.{is_overlong, lines_within}
 use Rattle.text_model.specs.LineKind.{LineKind}
-use Rattle.text_model.specs.ReadLine.{InputKind, Batch, Line, Skip, Put, Del, Commit, read_line, is_line}
+use Rattle.text_model.specs.ReadLine.{InputKind, Batch, Line, Put, Del, read_line, is_line}
 use Rattle.text_model.specs.FirstBad.{first_bad}
 use Rattle.text_model.specs.MapOfLines.{map_of_lines}
-use Rattle.text_model.specs.Words.{hex_word}
-use Rattle.text_model.specs.Texts.{root_text, commit_text, word_of_bytes, value_text}
+use Rattle.text_model.specs.Words.{hex_word, number_word}
+use Rattle.text_model.specs.Texts.{root_text, numbered_text, word_of_bytes, value_text}
 
 -- what lines make is a map of byte strings within the limits of keys and values
 abbrev pub LinesMakeMaps : Type 0
@@ -19,11 +19,9 @@ LinesMakeMaps = (lines : List (List ℕ)) → IsMap limits (map_of_lines lines)
 
 -- a line, as it is read, says nothing of a key
 abbrev pub IsSilentOn : List ℕ → Result Line LineKind → Type 0
-IsSilentOn k (Err kind) = Unit {0}
-IsSilentOn k (Ok Skip) = Unit {0}
 IsSilentOn k (Ok (Put key value)) = key ≢ k
 IsSilentOn k (Ok (Del key)) = key ≢ k
-IsSilentOn k (Ok Commit) = Unit {0}
+IsSilentOn k other = Unit {0}
 
 abbrev pub AreSilentOn : List ℕ → List (List ℕ) → Type 0
 AreSilentOn k = AllByRecursion (λ line. IsSilentOn k (read_line Batch line))
@@ -75,11 +73,17 @@ pub record RootLines : Type 0 where
   pub size : (w : ℕ) (m : Map) → length (root_text (root w m)) ≡ 5 + 64 + 1
   pub tells : (x y : List ℕ) → AreBytes x → AreBytes y → root_text x ≡ root_text y → x ≡ y
 
--- the lines of two commits differ where their numbers or the roots after them do
-abbrev pub CommitLines : Type 0
-CommitLines = (m n : ℕ) (x y : List ℕ) → m < 2 ^ 64 → n < 2 ^ 64 → AreBytes x → AreBytes y → length x ≡ length y → commit_text m x ≡ commit_text n y → (m ≡ n) × (x ≡ y)
+-- lines of one sort that tell a root behind a number differ where the numbers or the roots do
+abbrev pub NumberedLines : Type 0
+NumberedLines =
+    (sort : List ℕ) (m n : ℕ) (x y : List ℕ) → m < 2 ^ 64 → n < 2 ^ 64 → AreBytes x → AreBytes y → length x ≡ length y → numbered_text sort m x ≡ numbered_text sort n y → (m ≡ n) × (x ≡ y)
 
 -- the word that is printed of bytes is read as these bytes, and the lines of what is at a key differ where that does
 pub record ValueLines : Type 0 where
   pub reads : (bytes : List ℕ) → AreBytes bytes → hex_word (word_of_bytes bytes) ≡ Some bytes
   pub tells : (x y : Option (List ℕ)) → IfSome x AreBytes → IfSome y AreBytes → value_text x ≡ value_text y → x ≡ y
+
+-- a number of 64 bits, as it is printed, is a word that is read as that number, and no other word is
+pub record NumbersAreDecimal : Type 0 where
+  pub reads : (n : ℕ) → n < 2 ^ 64 → number_word (decimal n) ≡ Some n
+  pub only : (word : List ℕ) (n : ℕ) → number_word word ≡ Some n → (n < 2 ^ 64) × (word ≡ decimal n)

@@ -1,6 +1,6 @@
 -- Why a line is not understood.
 
--- of several faults the first of this list is told; of several words that stand for no key or value, the leftmost
+-- of several faults the first of this list down to `Count` is told, and then that of the leftmost word
 pub data LineKind : Type 0 where
   -- the line has too many bytes
   TooLong : LineKind
@@ -14,3 +14,7 @@ pub data LineKind : Type 0 where
   LongKey : LineKind
   -- a value has too many bytes
   LongValue : LineKind
+  -- a word that stands for a number is none
+  Number : LineKind
+  -- a word that stands for the store or a view is neither
+  Place : LineKind

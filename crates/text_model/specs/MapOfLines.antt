@@ -3,15 +3,14 @@ use Rattle.std.specs.Prelude.{ℕ, List, [], ◌∷◌, Option, Result, Ok, Err}
 use Rattle.std.specs.FinMap as map_of
 use Rattle.trie_model.specs.Maps.{Map}
 use Rattle.text_model.specs.LineKind.{LineKind}
-use Rattle.text_model.specs.ReadLine.{Batch, Line, Skip, Put, Del, Commit, read_line, is_line}
+use Rattle.text_model.specs.ReadLine.{Batch, Line, Put, Del, read_line, is_line}
 use Rattle.text_model.specs.FirstBad.{first_bad}
 
--- a map after a line: a later value at a key replaces an earlier one, and deleting a key that isn't there or committing changes nothing
+-- a map after a line: a later value at a key replaces an earlier one, and deleting a key that isn't there changes nothing, nor does any other line
 abbrev pub after_line : Map → Line → Map
-after_line m Skip = m
 after_line m (Put key value) = map_of.insert m key value
 after_line m (Del key) = map_of.remove m key
-after_line m Commit = m
+after_line m other = m
 
 -- a line that is not understood leaves a map as it is
 abbrev pub after_read : Map → Result Line LineKind → Map

@@ -1,17 +1,18 @@
 -- The grammar of lines: what a line asks for, or why it is not understood.
 use Rattle.std.specs.Prelude.{ℕ, ◌==◌, Bool, false, if◌then◌else◌, nat_le, List, [], ◌∷◌, length, codes, Option, Some, None, Result, Ok, Err, is_ok}
+use Rattle.std.specs.Option.{ok_or}
 use Rattle.std.specs.Str.{bytes_eq}
 use Rattle.base_model.specs.Fields.{◌>>=◌}
 use Rattle.trie_model.specs.Maps.{key_limit, value_limit}
 use Rattle.text_model.specs.Lines.{is_overlong}
-use Rattle.text_model.specs.Words.{words_of, hex_word}
-use Rattle.text_model.specs.LineKind.{LineKind, TooLong, Word, Count, Hex, LongKey, LongValue}
+use Rattle.text_model.specs.Words.{PlaceWord, words_of, hex_word, number_word, place_word}
+use Rattle.text_model.specs.LineKind.{LineKind, TooLong, Word, Count, Hex, LongKey, LongValue, Number, Place}
 
 -- which lines an input may have
 pub data InputKind : Type 0 where
   -- `put KEY VALUE` and `del KEY`
   Batch : InputKind
-  -- these, and `commit`
+  -- these, `commit`, and the lines on views
   Script : InputKind
 
 -- what a line asks for
@@ -24,11 +25,25 @@ pub data Line : Type 0 where
   Del : List ℕ → Line
   -- that the pending batch is committed: the changes of the lines before it
   Commit : Line
+  -- that a view of the pending batch is made, on the store or on a view
+  View : PlaceWord → Line
+  -- that the view of this number is committed
+  Take : ℕ → Line
+  -- that the view of this number is closed
+  Close : ℕ → Line
+  -- how the view of this number stands
+  State : ℕ → Line
+  -- the value at a key, of the store or of a view
+  Get : PlaceWord → List ℕ → Line
+  -- the root, of the store or of a view
+  Root : PlaceWord → Line
 
 -- a line whose first byte is `#`
 abbrev pub is_comment : List ℕ → Bool
 is_comment [] = false
 is_comment (b ∷ line) = b == 35
+
+-- ---- words
 
 -- the bytes of a word, no more of them than a limit
 abbrev pub at_most : ℕ → LineKind → Option (List ℕ) → Result (List ℕ) LineKind
@@ -43,47 +58,84 @@ key_word word = at_most key_limit LongKey (hex_word word)
 abbrev pub value_word : List ℕ → Result (List ℕ) LineKind
 value_word word = at_most value_limit LongValue (hex_word word)
 
--- what follows `put`: a key and a value
-abbrev pub put_words : List (List ℕ) → Result Line LineKind
-put_words [] = Err Count
-put_words (key ∷ []) = Err Count
-put_words (key ∷ value ∷ []) = do
+-- what follows a first word is one word
+abbrev pub one_word : (List ℕ → Result Line LineKind) → List (List ℕ) → Result Line LineKind
+one_word read [] = Err Count
+one_word read (word ∷ []) = read word
+one_word read (word ∷ next ∷ words) = Err Count
+
+-- what follows a first word is two words
+abbrev pub two_words : (List ℕ → List ℕ → Result Line LineKind) → List (List ℕ) → Result Line LineKind
+two_words read [] = Err Count
+two_words read (first ∷ []) = Err Count
+two_words read (first ∷ second ∷ []) = read first second
+two_words read (first ∷ second ∷ word ∷ words) = Err Count
+
+-- ---- lines that change a map
+
+-- a key and a value
+abbrev pub put_line : List ℕ → List ℕ → Result Line LineKind
+put_line key value = do
   k ← key_word key
   v ← value_word value
   Ok (Put k v)
-put_words (key ∷ value ∷ word ∷ words) = Err Count
 
--- what follows `del`: a key
-abbrev pub del_words : List (List ℕ) → Result Line LineKind
-del_words [] = Err Count
-del_words (key ∷ []) = do
+-- a key
+abbrev pub del_line : List ℕ → Result Line LineKind
+del_line key = do
   k ← key_word key
   Ok (Del k)
-del_words (key ∷ word ∷ words) = Err Count
 
--- a line that changes a map, by its first word and those that follow it
-abbrev pub batch_words : List ℕ → List (List ℕ) → Result Line LineKind
-batch_words command words =
-    if bytes_eq command (codes "put") then put_words words
-    else if bytes_eq command (codes "del") then del_words words
-    else Err Word
+-- ---- lines on views
+
+-- the number of a view
+abbrev pub number_line : (ℕ → Line) → List ℕ → Result Line LineKind
+number_line line number = do
+  n ← ok_or (number_word number) Number
+  Ok (line n)
+
+-- the store or a view
+abbrev pub place_line : (PlaceWord → Line) → List ℕ → Result Line LineKind
+place_line line place = do
+  p ← ok_or (place_word place) Place
+  Ok (line p)
+
+-- the store or a view, and a key
+abbrev pub get_line : List ℕ → List ℕ → Result Line LineKind
+get_line place key = do
+  p ← ok_or (place_word place) Place
+  k ← key_word key
+  Ok (Get p k)
 
 -- what follows `commit`: nothing
 abbrev pub commit_words : List (List ℕ) → Result Line LineKind
 commit_words [] = Ok Commit
 commit_words (word ∷ words) = Err Count
 
--- a line of a script, by its first word and those that follow it
+-- a line that only a script has, by its first word and those that follow it
 abbrev pub script_words : List ℕ → List (List ℕ) → Result Line LineKind
 script_words command words =
     if bytes_eq command (codes "commit") then commit_words words
-    else batch_words command words
+    else if bytes_eq command (codes "view") then one_word (place_line View) words
+    else if bytes_eq command (codes "take") then one_word (number_line Take) words
+    else if bytes_eq command (codes "close") then one_word (number_line Close) words
+    else if bytes_eq command (codes "state") then one_word (number_line State) words
+    else if bytes_eq command (codes "get") then two_words get_line words
+    else if bytes_eq command (codes "root") then one_word (place_line Root) words
+    else Err Word
 
--- a line by its words
+-- a line that only an input of this kind has
+abbrev pub own_words : InputKind → List ℕ → List (List ℕ) → Result Line LineKind
+own_words Batch command words = Err Word
+own_words Script command words = script_words command words
+
+-- a line by its words; each input has the lines that change a map
 abbrev pub line_of_words : InputKind → List (List ℕ) → Result Line LineKind
 line_of_words kind [] = Ok Skip
-line_of_words Batch (command ∷ words) = batch_words command words
-line_of_words Script (command ∷ words) = script_words command words
+line_of_words kind (command ∷ words) =
+    if bytes_eq command (codes "put") then two_words put_line words
+    else if bytes_eq command (codes "del") then one_word del_line words
+    else own_words kind command words
 
 -- what a line of such an input asks for
 abbrev pub read_line : InputKind → List ℕ → Result Line LineKind

@@ -6,9 +6,33 @@ use Rattle.hex.specs.Hex.{encode_lower}
 abbrev pub root_text : List ℕ → List ℕ
 root_text id = codes "root " ++ encode_lower id ++ 10 ∷ []
 
+-- a line of some sort that tells a root behind a number
+abbrev pub numbered_text : List ℕ → ℕ → List ℕ → List ℕ
+numbered_text sort number id = sort ++ decimal number ++ codes " " ++ encode_lower id ++ 10 ∷ []
+
 -- the line of a commit: its number, and the root after it
 abbrev pub commit_text : ℕ → List ℕ → List ℕ
-commit_text number id = codes "commit " ++ decimal number ++ codes " " ++ encode_lower id ++ 10 ∷ []
+commit_text number id = numbered_text (codes "commit ") number id
+
+-- the line of a view that was made: its number, and its root
+abbrev pub view_text : ℕ → List ℕ → List ℕ
+view_text number id = numbered_text (codes "view ") number id
+
+-- the line of a view that was committed: its number, and the root after it
+abbrev pub taken_text : ℕ → List ℕ → List ℕ
+taken_text number id = numbered_text (codes "taken ") number id
+
+-- the line of a view that was closed: its number
+abbrev pub closed_text : ℕ → List ℕ
+closed_text number = codes "closed " ++ decimal number ++ 10 ∷ []
+
+-- the line of how a view stands: its number, and the word of its state
+abbrev pub state_text : ℕ → List ℕ → List ℕ
+state_text number state = codes "state " ++ decimal number ++ codes " " ++ state ++ 10 ∷ []
+
+-- the line of a script's line that is refused: why
+abbrev pub refused_text : List ℕ → List ℕ
+refused_text cause = codes "refused " ++ cause ++ 10 ∷ []
 
 -- the word that stands for bytes, with small digits: a dash for no bytes
 abbrev pub word_of_bytes : List ℕ → List ℕ

@@ -1,10 +1,16 @@
 -- Worked lines of an input that makes a map, and of a script. Bytes are in hexadecimal: 09 is a tab, 0d a carriage return.
 use Rattle.std.specs.Prelude.{◌≡◌, ℕ, List, [], ◌∷◌, ◌++◌, codes, replicate, Result, Ok, Err}
-use Rattle.text_model.specs.LineKind.{LineKind, Word, Count, Hex, LongKey}
-use Rattle.text_model.specs.ReadLine.{Batch, Script, Line, Skip, Put, Del, Commit, read_line}
+use Rattle.text_model.specs.LineKind.{LineKind, Word, Count, Hex, LongKey, Number, Place}
+use Rattle.text_model.specs.ReadLine.{Batch, Script, Line, Skip, Put, Del, Commit, View, Take, Close, State, Get, Root, read_line}
+use Rattle.text_model.specs.Words.{Db, View as OfView}
 
+-- a line of an input that makes a map
 abbrev pub read : List ℕ → Result Line LineKind
 read = read_line Batch
+
+-- a line of a script
+abbrev pub script : List ℕ → Result Line LineKind
+script = read_line Script
 
 -- lines that are understood
 abbrev pub GoodLines : Type 0
@@ -47,22 +53,55 @@ BadLines =
     -- and a word that is not hexadecimal has no length
     × (read (codes "del z" ++ replicate 513 0x30) ≡ Err Hex)
 
--- lines of a script
+-- lines of a script that are understood
 abbrev pub ScriptLines : Type 0
 ScriptLines =
-    (read_line Script (codes "commit") ≡ Ok Commit)
-    × (read_line Script (codes " commit ") ≡ Ok Commit)
+    (script (codes "commit") ≡ Ok Commit)
+    × (script (codes " commit ") ≡ Ok Commit)
+    × (script (codes "view db") ≡ Ok (View Db))
+    × (script (codes "view 12") ≡ Ok (View (OfView 12)))
+    × (script (codes "\ttake\t1 ") ≡ Ok (Take 1))
+    × (script (codes "close 0") ≡ Ok (Close 0))
+    -- the greatest number
+    × (script (codes "state 18446744073709551615") ≡ Ok (State 18446744073709551615))
+    × (script (codes "get db -") ≡ Ok (Get Db []))
+    × (script (codes "get 3 6B") ≡ Ok (Get (OfView 3) (0x6b ∷ [])))
+    × (script (codes "root db") ≡ Ok (Root Db))
+    × (script (codes "root 10") ≡ Ok (Root (OfView 10)))
     -- the lines of an input that makes a map are lines of a script
-    × (read_line Script (codes "put 6b 76") ≡ Ok (Put (0x6b ∷ []) (0x76 ∷ [])))
-    × (read_line Script (codes "del 6b") ≡ Ok (Del (0x6b ∷ [])))
-    × (read_line Script (codes "# commit") ≡ Ok Skip)
-    × (read_line Script [] ≡ Ok Skip)
-    × (read_line Script (codes "put 6b") ≡ Err Count)
-    × (read_line Script (codes "put 6b 7") ≡ Err Hex)
-    -- nothing follows `commit`
-    × (read_line Script (codes "commit x") ≡ Err Count)
-    × (read_line Script (codes "comit") ≡ Err Word)
-    × (read_line Script (codes "COMMIT") ≡ Err Word)
-    × (read_line Script (codes "commit\r") ≡ Err Word)
-    -- and an input that makes a map has no commit
-    × (read (codes "commit") ≡ Err Word)
+    × (script (codes "put 6b 76") ≡ Ok (Put (0x6b ∷ []) (0x76 ∷ [])))
+    × (script (codes "del 6b") ≡ Ok (Del (0x6b ∷ [])))
+    × (script (codes "# commit") ≡ Ok Skip)
+    × (script [] ≡ Ok Skip)
+
+-- lines of a script that are not understood, by their faults
+abbrev pub BadScriptLines : Type 0
+BadScriptLines =
+    -- an input that makes a map has no commit and no view
+    (read (codes "commit") ≡ Err Word)
+    × (read (codes "view db") ≡ Err Word)
+    × (script (codes "comit") ≡ Err Word)
+    × (script (codes "COMMIT") ≡ Err Word)
+    × (script (codes "commit\r") ≡ Err Word)
+    × (script (codes "put 6b") ≡ Err Count)
+    -- nothing follows `commit`, and one word follows `view`
+    × (script (codes "commit x") ≡ Err Count)
+    × (script (codes "view") ≡ Err Count)
+    × (script (codes "view db db") ≡ Err Count)
+    × (script (codes "get db") ≡ Err Count)
+    × (script (codes "put 6b 7") ≡ Err Hex)
+    -- a zero in front, a sign, a digit that is not decimal, a number of 65 bits
+    × (script (codes "take 01") ≡ Err Number)
+    × (script (codes "close +1") ≡ Err Number)
+    × (script (codes "state 1f") ≡ Err Number)
+    × (script (codes "take 18446744073709551616") ≡ Err Number)
+    -- `db` is no number of a view, and what is neither is no place
+    × (script (codes "take db") ≡ Err Number)
+    × (script (codes "view DB") ≡ Err Place)
+    × (script (codes "view -") ≡ Err Place)
+    × (script (codes "root 007") ≡ Err Place)
+    × (script (codes "root 18446744073709551616") ≡ Err Place)
+    -- of two words that stand for nothing the left one tells
+    × (script (codes "get x 6") ≡ Err Place)
+    × (script (codes "get 1 6") ≡ Err Hex)
+    × (script (codes "get 1 " ++ replicate 514 0x30) ≡ Err LongKey)

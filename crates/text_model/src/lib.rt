@@ -6,8 +6,8 @@
 //! worked values. Nothing here fails, and nothing here takes memory.
 #![tactic(auto)]
 
-ghost use Rattle.text_model.specs.Laws.{LinesMakeMaps, LastLineCounts, FirstBadLine, CutLines, BadLineStays, OverlongLinesAreBad, RootLines, CommitLines, ValueLines};
-ghost use Rattle.text_model.specs.WorkedLines.{GoodLines, BadLines, ScriptLines};
+ghost use Rattle.text_model.specs.Laws.{LinesMakeMaps, LastLineCounts, FirstBadLine, CutLines, BadLineStays, OverlongLinesAreBad, RootLines, NumberedLines, ValueLines, NumbersAreDecimal};
+ghost use Rattle.text_model.specs.WorkedLines.{GoodLines, BadLines, ScriptLines, BadScriptLines};
 ghost use Rattle.text_model.specs.WorkedTexts.{WorkedTexts};
 
 /// What lines make is a map of byte strings within the limits of keys and values.
@@ -45,14 +45,19 @@ pub fn root_lines()
     ensures { RootLines }
 {}
 
-/// The line of a commit tells its number and the root after it.
-pub fn commit_lines()
-    ensures { CommitLines }
+/// The line of a commit, and of a view that was made or committed, tells its number and its root.
+pub fn numbered_lines()
+    ensures { NumberedLines }
 {}
 
 /// The line of what is at a key tells it, and a printed word is read as the bytes that it stands for.
 pub fn value_lines()
     ensures { ValueLines }
+{}
+
+/// A word is read as a number exactly where it is what is printed of that number.
+pub fn numbers_are_decimal()
+    ensures { NumbersAreDecimal }
 {}
 
 /// Lines that are understood.
@@ -65,12 +70,17 @@ pub fn bad_lines()
     ensures { BadLines }
 {}
 
-/// Lines of a script: what they ask for, or their faults.
+/// Lines of a script that are understood.
 pub fn script_lines()
     ensures { ScriptLines }
 {}
 
-/// Texts that come with a store.
+/// Lines of a script that are not understood, and their faults.
+pub fn bad_script_lines()
+    ensures { BadScriptLines }
+{}
+
+/// Texts that come with a store and with views.
 pub fn worked_texts()
     ensures { WorkedTexts }
 {}

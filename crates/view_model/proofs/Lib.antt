@@ -5,3 +5,7 @@ pub mod Commits
 pub mod DeadViews
 pub mod Numbers
 pub mod Limits
+pub mod LiveViews
+pub mod Forests
+pub mod ViewMaps
+pub mod Following

@@ -1,4 +1,5 @@
 pub mod Forest
 pub mod Calls
 pub mod Maps
+pub mod Standing
 pub mod Laws

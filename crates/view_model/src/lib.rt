@@ -4,7 +4,7 @@
 //! contract is a law of the definitions in `specs/`. Nothing here fails, and nothing here takes memory.
 #![tactic(auto)]
 
-ghost use Rattle.view_model.specs.Laws.{CommitsKeepWhatStandsOn, CommitsEndTheOthers, NextIsTold, OneNumberMore, DeadViewsStay, LimitsHold, NumbersAreGivenOnce};
+ghost use Rattle.view_model.specs.Laws.{CommitsKeepWhatStandsOn, CommitsEndTheOthers, NextIsTold, OneNumberMore, DeadViewsStay, LimitsHold, NumbersAreGivenOnce, ForestsAreReached, CallsKeepForests, DirectsEndAll, MadeOnParents, LiveMapsStay, CommitsTakeMaps};
 
 /// After a commit exactly the views stay live that stand on the one that was committed.
 pub fn commits_keep_what_stands_on()
@@ -39,4 +39,34 @@ pub fn limits_hold()
 /// The numbers that are given are 1, 2, 3 and so on.
 pub fn numbers_are_given_once()
     ensures { NumbersAreGivenOnce }
+{}
+
+/// In each forest that calls make, live views stand on the store or on live views.
+pub fn forests_are_reached()
+    ensures { ForestsAreReached }
+{}
+
+/// And each call leaves it so.
+pub fn calls_keep_forests()
+    ensures { CallsKeepForests }
+{}
+
+/// After a batch that is committed at once no view is live.
+pub fn directs_end_all()
+    ensures { DirectsEndAll }
+{}
+
+/// A view that was just made is live, and its map is that of its parent with its batch laid on.
+pub fn made_on_parents()
+    ensures { MadeOnParents }
+{}
+
+/// As long as a view stays live its map stays what it is, whatever is called.
+pub fn live_maps_stay()
+    ensures { LiveMapsStay }
+{}
+
+/// A commit makes the map of the view that of the store.
+pub fn commits_take_maps()
+    ensures { CommitsTakeMaps }
 {}

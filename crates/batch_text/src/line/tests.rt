@@ -9,6 +9,12 @@ enum Asked<'a> {
     Value { key: &'a [u8], value: &'a [u8] },
     NoValue { key: &'a [u8] },
     Commit,
+    View(PlaceWord),
+    Take(u64),
+    Close(u64),
+    State(u64),
+    Get(PlaceWord, &'a [u8]),
+    Root(PlaceWord),
 }
 
 fn assert_reads(
@@ -26,6 +32,19 @@ fn assert_reads(
             assert_eq!(rt; value.as_slice(), v, "value of {line:?}");
         }
         (Ok(Line::Del { key }), Ok(Asked::NoValue { key: k })) => {
+            assert_eq!(rt; key.as_slice(), k, "key of {line:?}");
+        }
+        (Ok(Line::Take { number }), Ok(Asked::Take(n)))
+        | (Ok(Line::Close { number }), Ok(Asked::Close(n)))
+        | (Ok(Line::State { number }), Ok(Asked::State(n))) => {
+            assert_eq!(rt; number, n, "number of {line:?}");
+        }
+        (Ok(Line::View { place }), Ok(Asked::View(p)))
+        | (Ok(Line::Root { place }), Ok(Asked::Root(p))) => {
+            assert_eq!(rt; place, p, "place of {line:?}");
+        }
+        (Ok(Line::Get { place, key }), Ok(Asked::Get(p, k))) => {
+            assert_eq!(rt; place, p, "place of {line:?}");
             assert_eq!(rt; key.as_slice(), k, "key of {line:?}");
         }
         (Err(fault), Err(kind)) => {
@@ -80,37 +99,119 @@ fn a_line_asks_for_what_its_words_say_or_has_its_first_fault(rt: HostRuntime) {
 }
 
 #[test]
-fn a_script_has_commits_and_no_other_input_has_them(rt: HostRuntime) {
+fn a_script_has_more_lines_and_no_other_input_has_them(rt: HostRuntime) {
     let alloc = rt.alloc();
-    let rows: [(InputKind, &[u8], Result<Asked, LineKind>); 14] = [
-        (InputKind::Script, b"commit", Ok(Asked::Commit)),
-        (InputKind::Script, b"\t commit ", Ok(Asked::Commit)),
-        (InputKind::Script, b"", Ok(Asked::Nothing)),
-        (InputKind::Script, b"# commit", Ok(Asked::Nothing)),
+    let one = Ok(Asked::Value {
+        key: b"k",
+        value: b"v",
+    });
+    let rows: [(&[u8], Result<Asked, LineKind>); 22] = [
+        (b"", Ok(Asked::Nothing)),
+        (b"# commit", Ok(Asked::Nothing)),
+        (b"put 6b 76", one),
+        (b"del 6b", Ok(Asked::NoValue { key: b"k" })),
+        (b"commit", Ok(Asked::Commit)),
+        (b"\t commit ", Ok(Asked::Commit)),
+        (b"view db", Ok(Asked::View(PlaceWord::Db))),
+        (b"view 1", Ok(Asked::View(PlaceWord::View(1)))),
+        (b" view\t0 ", Ok(Asked::View(PlaceWord::View(0)))),
+        (b"take 1", Ok(Asked::Take(1))),
+        (b"take 1000000", Ok(Asked::Take(1_000_000))),
+        (b"close 10", Ok(Asked::Close(10))),
+        (b"close\t2", Ok(Asked::Close(2))),
+        (b"state 3", Ok(Asked::State(3))),
         (
-            InputKind::Script,
-            b"put 6b 76",
-            Ok(Asked::Value {
-                key: b"k",
-                value: b"v",
-            }),
+            b"state 18446744073709551615",
+            Ok(Asked::State(18_446_744_073_709_551_615)),
         ),
+        (b"get db 6B", Ok(Asked::Get(PlaceWord::Db, b"k"))),
+        (b"get 9 -", Ok(Asked::Get(PlaceWord::View(9), b""))),
         (
-            InputKind::Script,
-            b"del 6b",
-            Ok(Asked::NoValue { key: b"k" }),
+            b"get 19 6b7f",
+            Ok(Asked::Get(PlaceWord::View(19), b"k\x7f")),
         ),
-        (InputKind::Script, b"comit", Err(LineKind::Word)),
-        (InputKind::Script, b"Commit", Err(LineKind::Word)),
-        (InputKind::Script, b"commit\r", Err(LineKind::Word)),
-        (InputKind::Script, b"commit x", Err(LineKind::Count)),
-        (InputKind::Script, b"commit commit", Err(LineKind::Count)),
-        (InputKind::Script, b"put 6b", Err(LineKind::Count)),
-        (InputKind::Script, b"del 6", Err(LineKind::Hex)),
-        (InputKind::Batch, b"commit", Err(LineKind::Word)),
+        (b"root db", Ok(Asked::Root(PlaceWord::Db))),
+        (b"root 7", Ok(Asked::Root(PlaceWord::View(7)))),
+        (
+            b"root 18446744073709551615",
+            Ok(Asked::Root(PlaceWord::View(18_446_744_073_709_551_615))),
+        ),
+        (b"# view", Ok(Asked::Nothing)),
     ];
-    for (kind, line, want) in rows {
-        assert_reads(&rt, alloc, kind, line, want);
+    for (line, want) in rows {
+        assert_reads(&rt, alloc, InputKind::Script, line, want);
+    }
+    let others: [&[u8]; 7] = [
+        b"commit",
+        b"view db",
+        b"take 1",
+        b"close 1",
+        b"state 1",
+        b"get db 6b",
+        b"root db",
+    ];
+    for line in others {
+        assert_reads(&rt, alloc, InputKind::Batch, line, Err(LineKind::Word));
+    }
+}
+
+// A line that tells its first fault, of a script.
+#[test]
+fn a_line_of_a_script_has_its_first_fault(rt: HostRuntime) {
+    let alloc = rt.alloc();
+    let rows: [(&[u8], LineKind); 48] = [
+        (b"comit", LineKind::Word),
+        (b"Commit", LineKind::Word),
+        (b"commit\r", LineKind::Word),
+        (b"views db", LineKind::Word),
+        (b"db", LineKind::Word),
+        // Lines that no script has today.
+        (b"prove now 6b", LineKind::Word),
+        (b"range now * * 1 1", LineKind::Word),
+        (b"compact", LineKind::Word),
+        (b"foo zz zz", LineKind::Word),
+        (b"put 6b", LineKind::Count),
+        (b"commit x", LineKind::Count),
+        (b"commit commit", LineKind::Count),
+        (b"view", LineKind::Count),
+        (b"view db db", LineKind::Count),
+        (b"take", LineKind::Count),
+        (b"take 1 2", LineKind::Count),
+        (b"close", LineKind::Count),
+        (b"close x y", LineKind::Count),
+        (b"state", LineKind::Count),
+        (b"state 1 1", LineKind::Count),
+        (b"get", LineKind::Count),
+        (b"get db", LineKind::Count),
+        (b"get x", LineKind::Count),
+        (b"get db 6b 76", LineKind::Count),
+        (b"root", LineKind::Count),
+        (b"root db 1", LineKind::Count),
+        (b"del 6", LineKind::Hex),
+        (b"get db 6", LineKind::Hex),
+        (b"get 1 x", LineKind::Hex),
+        (b"take x", LineKind::Number),
+        (b"take db", LineKind::Number),
+        (b"take -", LineKind::Number),
+        (b"take -1", LineKind::Number),
+        (b"take +1", LineKind::Number),
+        (b"take 00", LineKind::Number),
+        (b"take 01", LineKind::Number),
+        (b"close 1f", LineKind::Number),
+        (b"close 0x1", LineKind::Number),
+        (b"close 1\r", LineKind::Number),
+        (b"state 18446744073709551616", LineKind::Number),
+        (b"state 100000000000000000000", LineKind::Number),
+        (b"state \xff", LineKind::Number),
+        (b"view DB", LineKind::Place),
+        (b"view d", LineKind::Place),
+        (b"view dbx", LineKind::Place),
+        (b"root 007", LineKind::Place),
+        (b"root 18446744073709551616", LineKind::Place),
+        (b"get x 6", LineKind::Place),
+    ];
+    for (line, kind) in rows {
+        assert_reads(&rt, alloc, InputKind::Script, line, Err(kind));
     }
 }
 
@@ -118,7 +219,7 @@ fn a_script_has_commits_and_no_other_input_has_them(rt: HostRuntime) {
 #[test]
 fn words_and_lines_end_at_their_limits(rt: HostRuntime) -> Result<(), Fail> {
     let alloc = rt.alloc();
-    let rows: [(&[u8], usize, &[u8], Option<LineKind>); 10] = [
+    let rows: [(&[u8], usize, &[u8], Option<LineKind>); 14] = [
         (b"del ", 512, b"", None),
         (b"del ", 513, b"", Some(LineKind::Hex)),
         (b"del ", 514, b"", Some(LineKind::LongKey)),
@@ -129,12 +230,16 @@ fn words_and_lines_end_at_their_limits(rt: HostRuntime) -> Result<(), Fail> {
         (b"put - ", 524_290, b"", Some(LineKind::LongValue)),
         (b"put - ", 524_289, b"g", Some(LineKind::Hex)),
         (b"#", 20_000_000, b"", Some(LineKind::TooLong)),
+        (b"get db ", 512, b"", None),
+        (b"get 1 ", 514, b"", Some(LineKind::LongKey)),
+        (b"get 1x ", 514, b"", Some(LineKind::Place)),
+        (b"take 1", 20_000_000, b"", Some(LineKind::TooLong)),
     ];
     for (before, digits, after, want) in rows {
         let mut line = Vec::from_slice(alloc, before)?;
         line.resize(before.len() + digits, b'0')?;
         line.extend_from_slice(after)?;
-        let told = match read_line(alloc, &line, 7, InputKind::Batch) {
+        let told = match read_line(alloc, &line, 7, InputKind::Script) {
             Ok(_) => None,
             Err(fault) => Some(fault.kind),
         };

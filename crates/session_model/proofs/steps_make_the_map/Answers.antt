@@ -1,4 +1,4 @@
-use Rattle.session_model.proofs.Playing.{steps_make_the_map}
+use Rattle.session_model.proofs.MapsOfScripts.{steps_make_the_map}
 use Rattle.session_model.proofs.steps_make_the_map.Goals as goal
 
 pub returns : goal.returns

@@ -4,7 +4,7 @@ use Rattle.bit_keys.specs.Branch.{width_of}
 use Rattle.run_model.specs.Outside.{disk_seen}
 use Rattle.mdb_core.specs.Stores.{DbState, is_failed}
 use Rattle.mdb_core.specs.declared.fault.DbFault.{DbFault}
-use Rattle.mdb_tool.proofs.Openings.{look_up_fails, untouched_keeps}
+use Rattle.mdb_tool.proofs.Openings.{look_up_fails, store_fails, untouched_keeps}
 use Rattle.mdb_tool.proofs.GetEnds.{value_is}
 use Rattle.mdb_tool.proofs.get_command.look_up.Goals as goal
 
@@ -15,7 +15,7 @@ returns-in-Err-get-clause-fails g c =
     let e = c.in-Err-get.ensures in
     rw c.status_of_fault.ensures
     (look_up_fails (width_of c.args.branch) (disk_seen words c.args.disk.now) (disk_seen words c.open_store.new.disk) (disk_seen words c.get.new.disk) c.in-Ok.db c.in-Err-get.fault opened c.open_store.ensures.later c.get.ensures.untouched
-    (e.works opened.works) (λ is. e.disk (ap (λ (f : DbFault). Err f) is)))
+    (store_fails c.in-Ok.db c.in-Err-get.fault opened.works e.fault) (λ is. e.disk (ap (λ (f : DbFault). Err f) is)))
 
 pub returns-in-Err-get-clause-opens : goal.returns-in-Err-get-clause-opens
 returns-in-Err-get-clause-opens g c =

@@ -5,6 +5,6 @@ pub returns-in-Put : goal.returns-in-Put
 returns-in-Put c = λ m is.
     rw (c.in-Put.is, map_digests-insert m c.in-Put.key.items c.in-Put.value.items, ← is, ← c.deref.ensures.value, ← c.value_digest.ensures) c.put.ensures.ok
 
-pub returns-in-Del : goal.returns-in-Del
-returns-in-Del c = λ m is.
+pub returns : goal.returns
+returns c = λ m is.
     rw (c.in-Del.is, map_digests-remove m c.in-Del.key.items, ← is) c.remove.ensures

@@ -16,4 +16,4 @@ returns-in-Err-clause-fails g c =
 pub returns-in-Ok-clause-opened : goal.returns-in-Ok-clause-opened
 returns-in-Ok-clause-opened g c =
     let e = c.in-Ok.ensures in
-    record { opened = e.opened; works = e.works.0; given = e.works.1; width = e.works.2; synced = e.synced; left = e.left }
+    record { opened = e.opened; works = e.works.0; no_view = e.works.1; width = e.works.2; synced = e.synced; left = e.left }

@@ -1,31 +1,64 @@
-use Rattle.std.proofs.Common.{ap, sym, subst}
-use Rattle.session_model.specs.Session.{or_limit, commit}
-use Rattle.script_run.specs.Ends.{end_of}
-use Rattle.script_run.specs.Steps.{PartRuns, played}
+use Rattle.std.proofs.Common.{[], Err, ap, sym, subst}
+use Rattle.mdb_core.specs.Applies.{ApplyFails}
+use Rattle.session_model.specs.Session.{commit, or_limit}
 use Rattle.script_run.specs.declared.end.SessionEnd.{SessionEnd}
-use Rattle.script_run.proofs.Commits.{commits, refused, told, kept}
+use Rattle.script_run.specs.Ends.{end_of, fault_end}
+use Rattle.script_run.specs.Steps.{RunsUnprinted, session_of}
+use Rattle.script_run.proofs.KeptFiles.{kept_leaves}
+use Rattle.script_run.proofs.MadeLines.{kept_if_ok, kept_if_err, went_stopped, went_kept}
+use Rattle.script_run.proofs.Commits.{commit_made, commit_unmade, commit_printing, commit_begun, not_applied}
 use Rattle.script_run.proofs.committing.apply.Goals as goal
 
 pub returns-in-Ok-clause-done : goal.returns-in-Ok-clause-done
-returns-in-Ok-clause-done g c = λ told s at.
-    let e = c.in-Ok.ensures in
-    commits c.args.db.now.width s c.args.db.now c.args.batch _ at c.apply.new.self _ c.in-Ok.made.0.number c.in-Ok.made.1 e.applied e.number.0 e.number.1 e.root c.apply.ensures.width (e.contents told s.map at.keeps_map)
-
-pub returns-in-Ok-clause-told : goal.returns-in-Ok-clause-told
-returns-in-Ok-clause-told g c = λ tells s at synced.
+returns-in-Ok-clause-done g c = λ tells m keeps.
     let d = g.D.Disk.words in
-    told c.args.db.now.width s c.args.db.now c.args.batch (d.seen c.args.disk.now) at (d.moments c.args.disk.now) (d.moments c.apply.new.disk) c.args.db.now.values.journal.file
-    (c.apply.ensures.meanwhile tells s.map at.keeps_map synced) (c.in-Ok.ensures.left tells s.map at.keeps_map synced)
+    let e = c.in-Ok.ensures in
+    commit_made c.args.db.now.width m c.args.db.now c.args.batch (d.seen c.args.disk.now) keeps c.apply.new.self (d.seen c.apply.new.disk) e.applied (e.contents tells m keeps) c.numbered_line.result
+    c.in-Ok.made.0.number c.in-Ok.made.1 e.number e.views e.root c.apply.ensures.width c.numbered_line.ensures
 
-pub returns-clause-refused : goal.returns-clause-refused
-returns-clause-refused g c = λ told s at taken.
+pub returns-in-Ok-clause-stopped : goal.returns-in-Ok-clause-stopped
+returns-in-Ok-clause-stopped g c = λ tells m keeps.
+    let d = g.D.Disk.words in
+    let e = c.in-Ok.ensures in
+    commit_unmade c.args.db.now.width m c.args.db.now c.args.batch (d.seen c.args.disk.now) keeps c.apply.new.self (d.seen c.apply.new.disk) e.applied (e.contents tells m keeps) c.numbered_line.result _ c.numbered_line.ensures
+
+pub returns-in-Ok-clause-kept : goal.returns-in-Ok-clause-kept
+returns-in-Ok-clause-kept g c = λ tells m keeps synced.
     let d = g.D.Disk.words in
     let w = c.args.db.now.width in
-    subst (λ (end : SessionEnd). PartRuns (played s (or_limit (commit w s))) s.map taken taken (d.seen c.apply.new.disk) (end_of end)) (sym c.end_of_fault.ensures)
-    (refused w s c.args.db.now c.args.batch (d.seen c.args.disk.now) at c.in-Err.fault taken (d.seen c.apply.new.disk) c.requires.works c.in-Err.ensures.fault (λ ne. ap d.seen (c.in-Err.ensures.refused ne).1))
+    let s = session_of m c.args.db.now c.args.batch in
+    kept_if_err s (or_limit (commit w s)) (d.moments c.args.disk.now) (d.moments c.apply.new.disk) c.numbered_line.result
+    (commit_printing w m c.args.db.now c.args.batch (d.seen c.args.disk.now) keeps (d.moments c.args.disk.now) (d.moments c.apply.new.disk) c.args.db.now.values.journal.file c.in-Ok.ensures.applied (c.apply.ensures.meanwhile tells m keeps synced) (c.in-Ok.ensures.left tells m keeps synced))
+
+pub returns-in-Ok-clause-told : goal.returns-in-Ok-clause-told
+returns-in-Ok-clause-told g c = λ tells m keeps synced.
+    let d = g.D.Disk.words in
+    let w = c.args.db.now.width in
+    let s = session_of m c.args.db.now c.args.batch in
+    kept_if_ok s (or_limit (commit w s)) (d.moments c.args.disk.now) (d.moments c.apply.new.disk) c.numbered_line.result
+    (commit_printing w m c.args.db.now c.args.batch (d.seen c.args.disk.now) keeps (d.moments c.args.disk.now) (d.moments c.apply.new.disk) c.args.db.now.values.journal.file c.in-Ok.ensures.applied (c.apply.ensures.meanwhile tells m keeps synced) (c.in-Ok.ensures.left tells m keeps synced))
+
+pub returns-clause-stopped : goal.returns-clause-stopped
+returns-clause-stopped g c = λ tells m keeps.
+    let d = g.D.Disk.words in
+    let w = c.args.db.now.width in
+    let s = session_of m c.args.db.now c.args.batch in
+    let old = d.moments c.args.disk.now in
+    let now = d.moments c.apply.new.disk in
+    let files = d.seen c.apply.new.disk in
+    subst (λ (end : SessionEnd). RunsUnprinted s (or_limit (commit w s)) files (end_of end)) (sym c.end_of_fault.ensures)
+    (went_stopped s (or_limit (commit w s)) c.in-Err.fault (Err (fault_end c.in-Err.fault)) c.apply.new.self [] files old now
+    (not_applied w m c.args.db.now c.args.batch (d.seen c.args.disk.now) keeps c.apply.new.self files old now c.in-Err.fault c.requires.works c.in-Err.ensures.fault (λ ne. (ap d.seen (c.in-Err.ensures.refused ne).1, ap d.moments (c.in-Err.ensures.refused ne).1))))
 
 pub returns-clause-kept : goal.returns-clause-kept
-returns-clause-kept g c = λ tells s at synced taken.
+returns-clause-kept g c = λ tells m keeps synced.
     let d = g.D.Disk.words in
-    kept c.args.db.now.width s c.args.db.now c.args.batch (d.seen c.args.disk.now) at c.in-Err.fault taken (d.moments c.args.disk.now) (d.moments c.apply.new.disk) c.args.db.now.values.journal.file
-    c.in-Err.ensures.fault synced (λ ne. ap d.moments (c.in-Err.ensures.refused ne).1) (c.apply.ensures.meanwhile tells s.map at.keeps_map synced)
+    let w = c.args.db.now.width in
+    let s = session_of m c.args.db.now c.args.batch in
+    let old = d.moments c.args.disk.now in
+    let now = d.moments c.apply.new.disk in
+    let files = d.seen c.apply.new.disk in
+    went_kept s (or_limit (commit w s)) c.in-Err.fault (Err (fault_end c.in-Err.fault)) c.apply.new.self [] files old now
+    (not_applied w m c.args.db.now c.args.batch (d.seen c.args.disk.now) keeps c.apply.new.self files old now c.in-Err.fault c.requires.works c.in-Err.ensures.fault (λ ne. (ap d.seen (c.in-Err.ensures.refused ne).1, ap d.moments (c.in-Err.ensures.refused ne).1)))
+    (kept_leaves c.args.db.now m (d.seen c.args.disk.now) old keeps synced)
+    (λ is. commit_begun w m c.args.db.now c.args.batch (d.seen c.args.disk.now) keeps old now c.args.db.now.values.journal.file synced (subst (ApplyFails c.args.db.now c.args.batch) is c.in-Err.ensures.fault) (c.apply.ensures.meanwhile tells m keeps synced))

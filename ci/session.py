@@ -1,0 +1,214 @@
+"""What a script does to a store and its views, written plainly, for the scripts beside this one.
+
+It follows docs/formats.md and docs/definitions.md and nothing of the program. A view is a path of numbers: that of what
+it was made on, and its own number. The store has a path too, the numbers that were committed.
+"""
+from plain import KEY, VALUE, laid, payload, root_of
+
+NUMBERS, DEPTH, WEIGHT = 1_000_000, 64, 268_435_456
+PAYLOAD, PAIRS = 33_554_432, 1_000_000
+
+
+class BadLine(Exception):
+    """A line outside the grammar."""
+
+
+class Limit(Exception):
+    """A limit that ends a script: its word."""
+
+
+class View:
+    def __init__(self, path, batch):
+        self.path, self.batch, self.closed = path, batch, False
+
+
+def bytes_of(word, limit):
+    if word == b"-":
+        return b""
+    if len(word) % 2 or not word or any(it not in b"0123456789abcdefABCDEF" for it in word) or len(word) > 2 * limit:
+        raise BadLine
+    return bytes.fromhex(word.decode())
+
+
+def number_of(word):
+    if not word or any(it not in b"0123456789" for it in word) or (word[:1] == b"0" and word != b"0"):
+        raise BadLine
+    if int(word) >= 1 << 64:
+        raise BadLine
+    return int(word)
+
+
+def place_of(word):
+    """None for the store, else the number of a view."""
+    return None if word == b"db" else number_of(word)
+
+
+def hexed(some):
+    return some.hex().encode() or b"-"
+
+
+# The kinds of the words behind the first one of a line.
+WORDS = {
+    b"put": (lambda it: bytes_of(it, KEY), lambda it: bytes_of(it, VALUE)),
+    b"del": (lambda it: bytes_of(it, KEY),),
+    b"commit": (),
+    b"view": (place_of,),
+    b"take": (number_of,),
+    b"close": (number_of,),
+    b"state": (number_of,),
+    b"get": (place_of, lambda it: bytes_of(it, KEY)),
+    b"root": (place_of,),
+}
+
+
+class Session:
+    def __init__(self, pairs, width=4):
+        self.pairs, self.width = pairs, width
+        self.path, self.views, self.pending = [], [], {}
+        self.printed = []
+
+    # Views.
+
+    def view(self, number):
+        return self.views[number - 1] if 1 <= number <= len(self.views) else None
+
+    def state(self, view):
+        if view.path[-1] in self.path:
+            return b"Committed"
+        if view.closed:
+            return b"Closed"
+        if len(self.path) < len(view.path) and view.path[: len(self.path)] == self.path:
+            return b"Live"
+        return b"Invalid"
+
+    def refusal(self, number):
+        view = self.view(number)
+        if view is None:
+            return b"unknown"
+        state = self.state(view)
+        return None if state == b"Live" else b"not live " + state
+
+    def map_of(self, place):
+        pairs = self.pairs
+        if place is not None:
+            for number in self.view(place).path[len(self.path) :]:
+                pairs = laid(pairs, self.view(number).batch)
+        return pairs
+
+    def weight(self):
+        return sum(len(payload(it.batch)) for it in self.views if self.state(it) == b"Live")
+
+    def refused_view(self, place):
+        why = None if place is None else self.refusal(place)
+        if why:
+            return why
+        if len(self.views) >= NUMBERS:
+            return b"too many"
+        if len(self.on(place)) + 1 - len(self.path) > DEPTH:
+            return b"too deep"
+        if self.weight() + len(payload(self.pending)) > WEIGHT:
+            return b"too heavy"
+        return None
+
+    def on(self, place):
+        return self.path if place is None else self.view(place).path
+
+    # What is printed.
+
+    def tell(self, *words):
+        self.printed.append(b" ".join(words) + b"\n")
+
+    def root(self, pairs):
+        return root_of(pairs, self.width).hex().encode()
+
+    # Lines.
+
+    def commit(self, batch):
+        pairs = laid(self.pairs, batch)
+        if len(pairs) > PAIRS:
+            raise Limit(b"pairs")
+        self.pairs = pairs
+
+    def do_commit(self):
+        if len(self.views) >= NUMBERS or len(payload(self.pending)) > PAYLOAD:
+            raise Limit(b"batch")
+        self.commit(self.pending)
+        self.path = [*self.path, len(self.views) + 1]
+        self.views.append(View(self.path, {}))
+        self.pending = {}
+        self.tell(b"commit", b"%d" % len(self.views), self.root(self.pairs))
+
+    def do_view(self, place):
+        batch, why = self.pending, self.refused_view(place)
+        self.pending = {}
+        if why:
+            return self.tell(b"refused", why)
+        if len(payload(batch)) > PAYLOAD:
+            raise Limit(b"batch")
+        number = len(self.views) + 1
+        self.views.append(View([*self.on(place), number], batch))
+        return self.tell(b"view", b"%d" % number, self.root(self.map_of(number)))
+
+    def do_take(self, number):
+        why = self.refusal(number)
+        if not why and self.view(number).path != [*self.path, number]:
+            why = b"not parent"
+        if why:
+            return self.tell(b"refused", why)
+        self.commit(self.view(number).batch)
+        self.path = [*self.path, number]
+        return self.tell(b"taken", b"%d" % number, self.root(self.pairs))
+
+    def do_close(self, number):
+        why = self.refusal(number)
+        if why:
+            return self.tell(b"refused", why)
+        through = self.view(number).path
+        for view in self.views:
+            if view.path[: len(through)] == through and self.state(view) == b"Live":
+                view.closed = True
+        return self.tell(b"closed", b"%d" % number)
+
+    def do_state(self, number):
+        view = self.view(number)
+        return self.tell(b"refused unknown") if view is None else self.tell(b"state", b"%d" % number, self.state(view))
+
+    def do_get(self, place, key):
+        why = None if place is None else self.refusal(place)
+        if why:
+            return self.tell(b"refused", why)
+        value = self.map_of(place).get(key)
+        return self.tell(b"none") if value is None else self.tell(b"value", hexed(value))
+
+    def do_root(self, place):
+        why = None if place is None else self.refusal(place)
+        return self.tell(b"refused", why) if why else self.tell(b"root", self.root(self.map_of(place)))
+
+    def do(self, line):
+        words = line.replace(b"\t", b" ").split(b" ")
+        words = [it for it in words if it]
+        if line.startswith(b"#") or not words:
+            return
+        kinds = WORDS.get(words[0])
+        if kinds is None or len(kinds) != len(words) - 1:
+            raise BadLine
+        found = [kind(word) for kind, word in zip(kinds, words[1:])]
+        if words[0] == b"put":
+            self.pending = {**self.pending, found[0]: found[1]}
+        elif words[0] == b"del":
+            self.pending = {**self.pending, found[0]: None}
+        else:
+            getattr(self, "do_" + words[0].decode())(*found)
+
+    def run(self, lines):
+        """Does the lines: the text that is printed, the status and the status line."""
+        try:
+            for number, line in enumerate(lines, 1):
+                self.do(line)
+            if self.pending:
+                self.do_commit()
+        except BadLine:
+            return b"".join(self.printed), 3, b"mdb: line %d is not understood\n" % number
+        except Limit as limit:
+            return b"".join(self.printed), 10, b"mdb: limit " + limit.args[0] + b"\n"
+        return b"".join(self.printed), 0, b""
