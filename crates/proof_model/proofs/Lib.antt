@@ -1,5 +1,23 @@
 pub mod WireFields
 pub mod WireNodes
-mod WirePoints
-mod Takings
+pub mod WirePoints
+pub mod Takings
+pub mod ItemOrder
+pub mod SortedPairs
+pub mod ClaimItems
+pub mod AcceptedClaims
 mod WorkedPoints
+pub mod Described
+pub mod PathKeys
+pub mod TruePaths
+pub mod RangeBounds
+pub mod ShownNodes
+pub mod TrueItems
+pub mod TrueClaims
+pub mod TruePoints
+pub mod WireEnds
+pub mod WireRanges
+pub mod LastKeys
+pub mod AcceptedRanges
+pub mod TrueRanges
+mod WorkedRanges

@@ -49,7 +49,7 @@ two_children : (a b : ℕ) (x y front : List ℕ) → front ++ a ∷ ((x ++ b �
 two_children a b x y front = simp (append_assoc, append-nil)
 
 -- the same, with another node behind it
-two_children_then : (a b : ℕ) (x y front rest : List ℕ) → front ++ a ∷ ((x ++ b ∷ (y ++ [])) ++ rest) ≡ (front ++ a ∷ x) ++ (b ∷ y) ++ rest
+pub two_children_then : (a b : ℕ) (x y front rest : List ℕ) → front ++ a ∷ ((x ++ b ∷ (y ++ [])) ++ rest) ≡ (front ++ a ∷ x) ++ (b ∷ y) ++ rest
 two_children_then a b x y front rest = simp (append_assoc, append-nil)
 
 -- two keys with one front

@@ -7,6 +7,8 @@ use Rattle.trie_model.specs.StoredNode.{FitsLimits}
 use Rattle.proof_model.specs.Takings.{taken, IsLongest}
 use Rattle.proof_model.specs.Proofs.{Pair, PointProof, pair_size}
 use Rattle.proof_model.specs.Wire.{IsPoint, point_form, point_of}
+use Rattle.proof_model.specs.RangeProofs.{RangeProof}
+use Rattle.proof_model.specs.RangeWire.{IsRangeProof, range_form, range_of}
 
 -- what is taken of pairs is the longest front that fits, or one pair
 abbrev pub TakenIsLongest : Type 0
@@ -19,3 +21,10 @@ SpelledPointsAreRead = (l : Limits) (w : ℕ) (p : PointProof) → FitsLimits l 
 -- a proof that is read is spelled so, each byte of it
 abbrev pub ReadPointsAreSpelled : Type 0
 ReadPointsAreSpelled = (l : Limits) (w : ℕ) (bytes : List ℕ) (p : PointProof) → AreBytes bytes → point_of l w bytes ≡ Ok p → IsPoint l w p × (bytes ≡ point_form p)
+
+-- so for range proofs
+abbrev pub SpelledRangesAreRead : Type 0
+SpelledRangesAreRead = (l : Limits) (w : ℕ) (p : RangeProof) → FitsLimits l → l.value < 2 ^ 64 → IsWidth w → IsRangeProof l w p → range_of l w (range_form p) ≡ Ok p
+
+abbrev pub ReadRangesAreSpelled : Type 0
+ReadRangesAreSpelled = (l : Limits) (w : ℕ) (bytes : List ℕ) (p : RangeProof) → AreBytes bytes → range_of l w bytes ≡ Ok p → IsRangeProof l w p × (bytes ≡ range_form p)

@@ -4,5 +4,14 @@ pub mod Proofs
 pub mod Claims
 pub mod Refusals
 pub mod Wire
+pub mod Held
+pub mod Checked
 pub mod Laws
+pub mod Sound
 pub mod Worked
+pub mod CauseWords
+pub mod TrueClaims
+pub mod RangeProofs
+pub mod RangeWire
+pub mod RangeLaws
+pub mod WorkedRanges
