@@ -1,0 +1,2 @@
+pub mod RowsByKey
+pub mod KeysInOrder

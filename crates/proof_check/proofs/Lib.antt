@@ -1,0 +1,11 @@
+pub mod InOrder
+pub mod Fronts
+pub mod PathOrders
+pub mod ToldBeside
+pub mod EntryTests
+pub mod Gathered
+pub mod Telling
+pub mod Lists
+pub mod Steps
+pub mod Whole
+pub mod WholeRanges

@@ -1,0 +1,13 @@
+use Rattle.std.proofs.Common.{◌≡◌, ◌++◌, drop}
+use Rattle.std.specs.List.{flat_map}
+use Rattle.trie_model.specs.Hashing.{child_form}
+use Rattle.base_model.specs.Bytes.{Grown}
+use Rattle.trie_items.specs.Children.{children_of}
+use Rattle.proof_check.proofs.writing.write_children.Given as goal
+
+-- what is written, and what is left to write, are what was there and all children
+abbrev pub invariant-loop-child : goal.invariant-loop-child
+invariant-loop-child l = record {
+  so_far : l.out.items ++ flat_map child_form (children_of (drop l.child-index l.children)) ≡ l.fn.out.items ++ flat_map child_form (children_of l.children);
+  grown : Grown l.fn.out.items l.out.items;
+}

@@ -1,0 +1,5 @@
+pub mod Read
+pub mod Fronts
+pub mod Told
+pub mod Claims
+pub mod Refused

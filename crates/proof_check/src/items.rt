@@ -1,0 +1,85 @@
+ghost use Rattle.std.specs.Prelude.{◌≡◌, map, IfOk, None};
+ghost use Rattle.trie_model.specs.Items.{IsValid};
+ghost use Rattle.trie_model.specs.Maps.{limits, entry_item as item_of_pair};
+ghost use Rattle.bit_keys.specs.Branch.{width_of};
+ghost use Rattle.trie_items.specs.Items.{item_of};
+ghost use Rattle.proof_model.specs.Claims.{claim_items};
+ghost use Rattle.proof_model.specs.Refusals.{path_refusal};
+ghost use Rattle.proof_model.specs.Sound.{IsClaim};
+ghost use Rattle.proof_check.specs.Claims.{claim_of, pair_of, AreUnbroken};
+ghost use Rattle.proof_check.specs.Told.{Tells};
+
+use crate::beside::told_beside;
+use crate::claim::{Claim, Entry};
+use crate::merging::merge;
+use crate::paths::check_paths;
+use crate::verify_fault::VerifyFault;
+use bit_keys::{Branch, Key, NoMemory};
+use proof_model::claim_items_are_valid;
+use std::alloc::Global;
+use std::collections::VecDeque;
+use trie_items::{Item, ItemFault, ItemList, value_digest};
+
+fn entry_item(alloc: Global, entry: &Entry) -> Result<Item, NoMemory>
+    ensures { IfOk result (λ i. item_of i ≡ item_of_pair (pair_of entry.now)) }
+{
+    Ok(Item::Val {
+        key: Key::from_bytes(alloc, entry.key)?,
+        digest: value_digest(entry.value),
+    })
+}
+
+/// The items of the entries, in the order of the entries.
+fn entry_items(alloc: Global, entries: &[Entry]) -> Result<VecDeque<Item>, NoMemory>
+    ensures { IfOk result (λ q. map item_of q.items ≡ map item_of_pair (map pair_of entries.now)) }
+{
+    let mut items = VecDeque::new(alloc);
+    for entry in entries {
+        items.push_back(entry_item(alloc, entry)?)?;
+    }
+    Ok(items)
+}
+
+/// The items of a claim whose paths are in order, in the order of the keys.
+fn gather(alloc: Global, branch: Branch, claim: &Claim) -> Result<VecDeque<Item>, NoMemory>
+    requires claim { IsClaim limits (width_of branch) (claim_of claim.now) }
+    requires unbroken { AreUnbroken (claim_of claim.now) }
+    ensures { IfOk result (λ q. map item_of q.items ≡ claim_items (width_of branch) (claim_of claim.now)) }
+{
+    let listed = entry_items(alloc, claim.entries)?;
+    let start = told_beside(alloc, branch, claim, claim.start)?;
+    let end = told_beside(alloc, branch, claim, claim.end)?;
+    let beside = merge(alloc, start, end)?;
+    merge(alloc, listed, beside)
+}
+
+/// A list of items that are a valid one.
+fn list_of(alloc: Global, branch: Branch, items: VecDeque<Item>) -> Result<ItemList, NoMemory>
+    requires { IsValid (width_of branch) (map item_of items.items) }
+    ensures width { IfOk result (λ s. s.width ≡ width_of branch) }
+    ensures items { IfOk result (λ s. s.items ≡ map item_of items.items) }
+{
+    let mut rest = items;
+    let mut list = ItemList::new(alloc, branch);
+    while let Some(item) = rest.pop_front() {
+        match list.push(item) {
+            Ok(()) => {}
+            Err(ItemFault::Order) => unreachable!(),
+            Err(ItemFault::NoMemory) => return Err(NoMemory),
+        }
+    }
+    Ok(list)
+}
+
+/// The items of a claim. It tells of the paths alone why they are refused.
+pub fn items_of(alloc: Global, branch: Branch, claim: &Claim) -> Result<ItemList, VerifyFault>
+    requires { IsClaim limits (width_of branch) (claim_of claim.now) }
+    ensures told { Tells result (path_refusal claim.now.start.now claim.now.end.now None) }
+    ensures width { IfOk result (λ s. s.width ≡ width_of branch) }
+    ensures items { IfOk result (λ s. s.items ≡ claim_items (width_of branch) (claim_of claim.now)) }
+{
+    claim_items_are_valid();
+    check_paths(claim.start, claim.end)?;
+    let items = gather(alloc, branch, claim)?;
+    Ok(list_of(alloc, branch, items)?)
+}

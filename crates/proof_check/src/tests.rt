@@ -1,0 +1,5 @@
+mod claims;
+mod damage;
+mod plain;
+mod point_bytes;
+mod range_bytes;
