@@ -2,6 +2,7 @@
 use Rattle.std.proofs.Common.{◌≡◌, ℕ, ◌+◌, ◌*◌, ◌%◌, ◌<◌, ◌≤◌, ◌==◌, nat_le, true, false, codes, List, [], length, take, drop, slice_index, Option, Some, None, Result, Ok, Err, refl, ◌∙◌, ap, arith}
 use Rattle.std.specs.Prelude.{IsErr}
 use Rattle.std.specs.List.{AllPass}
+use Rattle.std.specs.Option.{ok_or}
 use Rattle.std.specs.Result.{result_ok}
 use Rattle.std.specs.Str.{bytes_eq}
 use Rattle.std.proofs.lemmas.Bool.{le-leb, lt-leb}
@@ -78,3 +79,11 @@ long_told limit long named told spelled digits seen is even over hex other = go 
     go (Err e) decoded same =
         let refuses : ¬ (AllPass is_hex_digit digits) = λ all. let read = decode_of-digits digits even all in cc (decoded, read.1) in
         rw (other refuses, same) refl
+
+-- no more digits than the limit allows are read as if there were none
+pub fits_told : (limit : ℕ) (long : LineKind) (spelled : Option (List ℕ)) (digits : List ℕ) → spelled ≡ result_ok (decode_of digits) → length digits ≤ 2 * limit → at_most limit long spelled ≡ ok_or (result_ok (decode_of digits)) Hex
+fits_told limit long spelled digits is fits = go (decode_of digits) refl
+  where
+    go : (r : Result (List ℕ) FromHexError) → decode_of digits ≡ r → at_most limit long spelled ≡ ok_or (result_ok r) Hex
+    go (Ok bytes) read = within_read limit long spelled digits bytes is read fits
+    go (Err e) read = not_read limit long spelled digits is (rw read refl)

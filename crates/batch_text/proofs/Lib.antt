@@ -7,3 +7,5 @@ pub mod DigitTable
 pub mod HexWords
 pub mod NumberWords
 pub mod SeenLine
+pub mod RootWords
+pub mod UsedBytes

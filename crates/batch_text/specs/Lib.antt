@@ -2,3 +2,4 @@ pub mod Stream
 pub mod SeenLine
 pub mod WordsOfLine
 pub mod HexDigits
+pub mod PassedLines

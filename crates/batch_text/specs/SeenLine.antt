@@ -1,24 +1,33 @@
 -- What was read of a line, in the words of the definitions.
 use Rattle.std.specs.Prelude.{◌≡◌, Option, Some, None, IfSome, Result, Ok, Err}
 use Rattle.batch_text.specs.declared.line.InputKind.{InputKind as ReadInput}
-use Rattle.batch_text.specs.declared.line.InputKind.TheVariants.{Batch as ReadBatch, Script as ReadScript}
+use Rattle.batch_text.specs.declared.line.InputKind.TheVariants.{Batch as ReadBatch, Script as ReadScript, Verify as ReadVerify}
 use Rattle.batch_text.specs.declared.line.LineKind.{LineKind as ReadKind}
 use Rattle.batch_text.specs.declared.line.LineKind.TheVariants as read_kind
 use Rattle.batch_text.specs.declared.line.Line.{Line as ReadLine}
 use Rattle.batch_text.specs.declared.line.Line.TheVariants as read
 use Rattle.batch_text.specs.declared.number_words.PlaceWord.{PlaceWord as ReadPlace}
 use Rattle.batch_text.specs.declared.number_words.PlaceWord.TheVariants as read_place
-use Rattle.text_model.specs.LineKind.{LineKind, TooLong, Word, Count, Hex, LongKey, LongValue, Number, Place}
-use Rattle.text_model.specs.ReadLine.{InputKind, Batch, Script, Line, Skip, Put, Del, Commit, View, Take, Close, State, Get, Root}
-use Rattle.text_model.specs.Words.{PlaceWord, Db, View as OfView}
+use Rattle.batch_text.specs.declared.root_words.RootWord.{RootWord as ReadRoot}
+use Rattle.batch_text.specs.declared.root_words.RootWord.TheVariants as read_root
+use Rattle.text_model.specs.LineKind.{LineKind, TooLong, Word, Count, Hex, LongKey, LongValue, Number, Place, Root as NoRoot}
+use Rattle.text_model.specs.ReadLine.{InputKind, Batch, Script, Verify, Line, Skip, Put, Del, Commit, View, Take, Close, State, Get, Root, Prove, Point}
+use Rattle.text_model.specs.Words.{PlaceWord, Db, View as OfView, RootWord, Id, Now, Empty, Back}
 
 abbrev pub seen_input : ReadInput → InputKind
 seen_input ReadBatch = Batch
 seen_input ReadScript = Script
+seen_input ReadVerify = Verify
 
 abbrev pub seen_place : ReadPlace → PlaceWord
 seen_place read_place.Db = Db
 seen_place (read_place.View number) = OfView number
+
+abbrev pub seen_root : ReadRoot → RootWord
+seen_root (read_root.Id id) = Id id
+seen_root read_root.Now = Now
+seen_root read_root.Empty = Empty
+seen_root (read_root.Back commits) = Back commits
 
 abbrev pub seen_line : ReadLine → Line
 seen_line read.Skip = Skip
@@ -31,6 +40,8 @@ seen_line (read.Close number) = Close number
 seen_line (read.State number) = State number
 seen_line (read.Get place key) = Get (seen_place place) key.items
 seen_line (read.Root place) = Root (seen_place place)
+seen_line (read.Prove root key) = Prove (seen_root root) key.items
+seen_line (read.Point root key proof) = Point root key.items proof.items
 
 -- the kind of a fault, or none for want of memory
 abbrev pub seen_kind : ReadKind → Option LineKind
@@ -42,6 +53,7 @@ seen_kind read_kind.LongKey = Some LongKey
 seen_kind read_kind.LongValue = Some LongValue
 seen_kind read_kind.Number = Some Number
 seen_kind read_kind.Place = Some Place
+seen_kind read_kind.Root = Some NoRoot
 seen_kind read_kind.NoMemory = None
 
 -- the fault is the one that is meant, or memory ran out

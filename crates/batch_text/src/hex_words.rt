@@ -1,8 +1,10 @@
-// Words in hexadecimal: keys and values.
+// Words in hexadecimal: keys, values, and bytes of any number.
 ghost use Rattle.std.specs.Prelude.{◌≡◌, ◌≤◌, ◌%◌, IfSome, IfNone, IfOk, IsErrOf, None, length, take};
 ghost use Rattle.std.specs.List.{AllPass};
+ghost use Rattle.std.specs.Option.{ok_or};
 ghost use Rattle.std.specs.Result.{result_ok};
 ghost use Rattle.hex.specs.Hex.{decode_of, is_hex_digit};
+ghost use Rattle.text_model.specs.LineKind.{Hex};
 ghost use Rattle.text_model.specs.Words.{hex_word};
 ghost use Rattle.text_model.specs.ReadLine.{key_word, value_word};
 ghost use Rattle.batch_text.specs.SeenLine.{IsRead};
@@ -117,6 +119,20 @@ pub fn read_key_word(word: &[u8]) -> Option<KeyWord>
     }
 }
 
+// The bytes of an even number of digits.
+fn bytes_of(alloc: Global, digits: &[u8]) -> Result<Vec<u8>, LineKind>
+    requires { length digits.now % 2 ≡ 0 }
+    ensures { IsRead (λ bytes. bytes.items) result (ok_or (result_ok (decode_of digits.now)) Hex) }
+{
+    let Ok(mut bytes) = vec![in alloc; 0u8; digits.len() / 2] else {
+        return Err(LineKind::NoMemory);
+    };
+    if !read_digits(digits, &mut bytes) {
+        return Err(LineKind::Hex);
+    }
+    Ok(bytes)
+}
+
 /// The value that a word stands for.
 pub(crate) fn read_value(alloc: Global, word: &[u8]) -> Result<Vec<u8>, LineKind>
     ensures { IsRead (λ value. value.items) result (value_word word.now) }
@@ -127,11 +143,15 @@ pub(crate) fn read_value(alloc: Global, word: &[u8]) -> Result<Vec<u8>, LineKind
     if digits.len() > 2 * VALUE_LIMIT {
         return Err(fault_of_long(digits, LineKind::LongValue));
     }
-    let Ok(mut bytes) = vec![in alloc; 0u8; digits.len() / 2] else {
-        return Err(LineKind::NoMemory);
-    };
-    if !read_digits(digits, &mut bytes) {
+    bytes_of(alloc, digits)
+}
+
+/// The bytes that a word stands for, as many as a line has room for.
+pub(crate) fn read_hex(alloc: Global, word: &[u8]) -> Result<Vec<u8>, LineKind>
+    ensures { IsRead (λ bytes. bytes.items) result (ok_or (hex_word word.now) Hex) }
+{
+    let Some(digits) = digits_of(word) else {
         return Err(LineKind::Hex);
-    }
-    Ok(bytes)
+    };
+    bytes_of(alloc, digits)
 }

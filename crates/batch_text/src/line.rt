@@ -1,12 +1,14 @@
 // What a line asks for, read from its bytes.
 ghost use Rattle.std.specs.Prelude.{◌≡◌, ℕ, IfOk, IfErr, Ok};
-ghost use Rattle.text_model.specs.ReadLine.{Line as LineOf, one_word as words_of_one, two_words as words_of_two, put_line, del_line, number_line, place_line, get_line, commit_words, script_words, line_of_words, read_line as line_of};
+ghost use Rattle.text_model.specs.ReadLine.{Line as LineOf, one_word as words_of_one, two_words as words_of_two, three_words as words_of_three, put_line, del_line, number_line, place_line, get_line, prove_line, point_line, commit_words, script_words, verify_words, line_of_words, read_line as line_of};
 ghost use Rattle.text_model.specs.Words.{PlaceWord as PlaceOf, words_of};
 ghost use Rattle.batch_text.specs.SeenLine.{seen_input, seen_place, seen_line, IsFaultOf, IsRead};
 
-use crate::hex_words::{read_key, read_value};
+use crate::hex_words::{read_hex, read_key, read_value};
 use crate::number_words::{PlaceWord, read_number, read_place};
+use crate::root_words::{RootWord, read_plain_root, read_root};
 use crate::words::{next_word, only_word, two_words};
+use bit_keys::Id;
 use smallvec::SmallVec;
 use std::alloc::Global;
 
@@ -21,8 +23,11 @@ pub type KeyBytes = SmallVec<u8, 32>;
 pub enum InputKind {
     /// `put KEY VALUE` and `del KEY`.
     Batch,
-    /// These, `commit`, `view PLACE`, `take NUMBER`, `close NUMBER`, `state NUMBER`, `get PLACE KEY` and `root PLACE`.
+    /// These, `commit`, `view PLACE`, `take NUMBER`, `close NUMBER`, `state NUMBER`, `get PLACE KEY`, `root PLACE` and
+    /// `prove ROOT KEY`.
     Script,
+    /// `point ROOT KEY HEX`.
+    Verify,
 }
 
 /// Why a line is not understood: the first of these down to `Count`, and then that of the leftmost word.
@@ -44,6 +49,9 @@ pub enum LineKind {
     Number,
     /// A word that stands for the store or a view is neither `db` nor such a number.
     Place,
+    /// A word that stands for a root is none: neither 64 hexadecimal digits nor, as its input has them, `empty`, `now`
+    /// or `~` with such a number.
+    Root,
     /// There was no memory.
     NoMemory,
 }
@@ -63,23 +71,52 @@ pub enum Line {
     /// Nothing: a comment, or a line without words.
     Skip,
     /// A value at a key.
-    Put { key: KeyBytes, value: Vec<u8> },
+    Put {
+        key: KeyBytes,
+        value: Vec<u8>,
+    },
     /// No value at a key.
-    Del { key: KeyBytes },
+    Del {
+        key: KeyBytes,
+    },
     /// That the pending batch is committed: the changes of the lines before it.
     Commit,
     /// That a view of the pending batch is made, on the store or on a view.
-    View { place: PlaceWord },
+    View {
+        place: PlaceWord,
+    },
     /// That the view of this number is committed.
-    Take { number: u64 },
+    Take {
+        number: u64,
+    },
     /// That the view of this number is closed.
-    Close { number: u64 },
+    Close {
+        number: u64,
+    },
     /// How the view of this number stands.
-    State { number: u64 },
+    State {
+        number: u64,
+    },
     /// The value at a key, of the store or of a view.
-    Get { place: PlaceWord, key: KeyBytes },
+    Get {
+        place: PlaceWord,
+        key: KeyBytes,
+    },
     /// The root, of the store or of a view.
-    Root { place: PlaceWord },
+    Root {
+        place: PlaceWord,
+    },
+    /// The proof of a key, in the map that a root names.
+    Prove {
+        root: RootWord,
+        key: KeyBytes,
+    },
+    /// Whether bytes prove what every map with this root has at a key.
+    Point {
+        root: Id,
+        key: KeyBytes,
+        proof: Vec<u8>,
+    },
 }
 
 /// Reads the line of this number in an input of this kind.
@@ -111,13 +148,16 @@ fn read_bytes(alloc: Global, line: &[u8], kind: InputKind) -> Result<Line, LineK
     read_words(alloc, line, kind)
 }
 
-// A line by its words. Those that change a map come first, since most lines do.
+// A line by its words. Of those of a store the ones that change a map come first, since most lines do.
 fn read_words(alloc: Global, line: &[u8], kind: InputKind) -> Result<Line, LineKind>
     ensures { IsRead seen_line result (line_of_words (seen_input kind) (words_of line.now)) }
 {
     let Some((command, rest)) = next_word(line) else {
         return Ok(Line::Skip);
     };
+    if let InputKind::Verify = kind {
+        return read_verify(alloc, command, rest);
+    }
     if command == b"put".as_slice() {
         return read_put(alloc, rest);
     }
@@ -125,8 +165,8 @@ fn read_words(alloc: Global, line: &[u8], kind: InputKind) -> Result<Line, LineK
         return read_del(alloc, rest);
     }
     match kind {
-        InputKind::Batch => Err(LineKind::Word),
         InputKind::Script => read_script(alloc, command, rest),
+        InputKind::Batch | InputKind::Verify => Err(LineKind::Word),
     }
 }
 
@@ -183,6 +223,9 @@ fn read_script(alloc: Global, command: &[u8], rest: &[u8]) -> Result<Line, LineK
         let place = only_place(rest)?;
         return Ok(Line::Root { place });
     }
+    if command == b"prove".as_slice() {
+        return read_prove(alloc, rest);
+    }
     Err(LineKind::Word)
 }
 
@@ -226,6 +269,44 @@ fn read_get(alloc: Global, rest: &[u8]) -> Result<Line, LineKind>
     let place = read_place(place)?;
     let key = read_key(alloc, key)?;
     Ok(Line::Get { place, key })
+}
+
+// What follows `prove`.
+fn read_prove(alloc: Global, rest: &[u8]) -> Result<Line, LineKind>
+    ensures { IsRead seen_line result (words_of_two prove_line (words_of rest.now)) }
+{
+    let Some((root, key)) = two_words(rest) else {
+        return Err(LineKind::Count);
+    };
+    let root = read_root(root)?;
+    let key = read_key(alloc, key)?;
+    Ok(Line::Prove { root, key })
+}
+
+// A line of an input of proofs.
+fn read_verify(alloc: Global, command: &[u8], rest: &[u8]) -> Result<Line, LineKind>
+    ensures { IsRead seen_line result (verify_words command.now (words_of rest.now)) }
+{
+    if command == b"point".as_slice() {
+        return read_point(alloc, rest);
+    }
+    Err(LineKind::Word)
+}
+
+// What follows `point`.
+fn read_point(alloc: Global, rest: &[u8]) -> Result<Line, LineKind>
+    ensures { IsRead seen_line result (words_of_three point_line (words_of rest.now)) }
+{
+    let Some((root, words)) = next_word(rest) else {
+        return Err(LineKind::Count);
+    };
+    let Some((key, proof)) = two_words(words) else {
+        return Err(LineKind::Count);
+    };
+    let root = read_plain_root(root)?;
+    let key = read_key(alloc, key)?;
+    let proof = read_hex(alloc, proof)?;
+    Ok(Line::Point { root, key, proof })
 }
 
 #[cfg(test)]

@@ -1,2 +1,5 @@
 pub mod RootDecided
 pub mod WorkedRuns
+pub mod Verifying
+pub mod Telling
+pub mod PrintedText

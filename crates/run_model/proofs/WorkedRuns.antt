@@ -17,7 +17,14 @@ use Rattle.text_model.specs.LineKind.{LineKind}
 use Rattle.text_model.specs.ReadLine.{Batch, Line, Put, Del, read_line}
 use Rattle.text_model.specs.MapOfLines.{after_read, after_lines, map_of_lines}
 use Rattle.text_model.specs.Texts.{root_text}
-use Rattle.run_model.specs.Worked.{prints, PrintsOnePair, PrintsZeros, OnePairRuns, EmptyRuns, WrongWordRuns, WrongLineRuns, KeyLimitRuns}
+use Rattle.proof_model.specs.Checked.{point_checked}
+use Rattle.proof_model.specs.Claims.{claim_items}
+use Rattle.proof_model.specs.Refusals.{refusal, path_refusal}
+use Rattle.proof_model.specs.Wire.{point_of, head_at, byte_at, maybe_at, path_at, nodes_at, all_read}
+use Rattle.base_model.specs.Fields.{bytes_at, flag_at, number_at}
+use Rattle.base_model.specs.ReadUvarint.{uvarint_read}
+use Rattle.std.specs.Fmt.{digits}
+use Rattle.run_model.specs.Worked.{prints, PrintsOnePair, PrintsZeros, OnePairRuns, EmptyRuns, WrongWordRuns, WrongLineRuns, KeyLimitRuns, VerifyRuns}
 
 -- ---- the pairs that lines make, as a list that computes
 abbrev pairs_after : List (List ℕ × List ℕ) → Result Line LineKind → List (List ℕ × List ℕ)
@@ -95,7 +102,7 @@ empty_runs = (prints_zeros (lines_of []) refl, prints_zeros (lines_of (codes "\n
 
 pub wrong_word_runs : WrongWordRuns
 unfolding decode_pairs
-wrong_word_runs found bytes = (refl, refl, refl, refl, refl, refl, refl, refl, refl, refl, refl, refl, refl, refl)
+wrong_word_runs found bytes = (refl, refl, refl, refl, refl, refl, refl, refl, refl, refl, refl, refl, refl, refl, refl, refl, refl, refl, refl, refl, refl)
 
 pub wrong_line_runs : WrongLineRuns
 unfolding decode_pairs
@@ -104,3 +111,7 @@ wrong_line_runs = (refl, refl, refl, refl, refl, refl, refl, refl, refl, refl, r
 pub key_limit_runs : KeyLimitRuns
 unfolding decode_pairs lines_of
 key_limit_runs = (prints_zeros (lines_of (codes "del " ++ replicate 512 0x30)) refl, refl)
+
+pub verify_runs : VerifyRuns
+unfolding decode_pairs point_checked point_of head_at byte_at bytes_at maybe_at flag_at path_at number_at uvarint_read nodes_at all_read refusal path_refusal claim_items id id_within zero_id digits
+verify_runs = (refl, refl, refl)

@@ -1,8 +1,9 @@
 -- The words of the command line: a folder, the command, its factor, and the command's own words.
-use Rattle.std.specs.Prelude.{ℕ, Bool, true, false, if◌then◌else◌, List, [], ◌∷◌, codes, Option, Some, None, Result, Ok, Err}
+use Rattle.std.specs.Prelude.{ℕ, suc, Bool, true, false, if◌then◌else◌, List, [], ◌∷◌, codes, Option, Some, None, Result, Ok, Err}
 use Rattle.std.specs.Str.{bytes_eq}
-use Rattle.text_model.specs.LineKind.{LineKind}
+use Rattle.std.specs.Result.{result_ok}
 use Rattle.text_model.specs.ReadLine.{key_word}
+use Rattle.text_model.specs.Words.{RootWord, root_word}
 
 -- a command, with what its own words say
 pub data Command : Type 0 where
@@ -12,12 +13,28 @@ pub data Command : Type 0 where
   Apply : Command
   -- the value of a key
   Get : List ℕ → Command
+  -- the proof of a key, in the map that a root names
+  Prove : RootWord → List ℕ → Command
+  -- whether the proofs of the input are accepted
+  Verify : Command
 
 -- whether a command uses a store, which lies in the folder
 abbrev pub uses_store : Command → Bool
 uses_store Root = false
 uses_store Apply = true
 uses_store (Get key) = true
+uses_store (Prove root key) = true
+uses_store Verify = false
+
+-- whether a command names a map, which the store may not have
+abbrev pub names_map : Command → Bool
+names_map (Prove root key) = true
+names_map other = false
+
+-- whether a command checks proofs
+abbrev pub checks_proofs : Command → Bool
+checks_proofs Verify = true
+checks_proofs other = false
 
 -- what words ask for: a command, and the number of bits of a token
 pub record Job : Type 0 where
@@ -44,25 +61,33 @@ abbrev pub job_words : (List (List ℕ) → Result Command ℕ) → List (List �
 job_words own [] = Err 3
 job_words own (factor ∷ words) = job_with (factor_word factor) (own words)
 
+-- no word from this place on
+abbrev pub no_more : ℕ → Command → List (List ℕ) → Result Command ℕ
+no_more place command [] = Ok command
+no_more place command (word ∷ words) = Err place
+
 -- a command without words of its own
 abbrev pub no_words : Command → List (List ℕ) → Result Command ℕ
-no_words command [] = Ok command
-no_words command (word ∷ words) = Err 4
+no_words = no_more 4
 
-abbrev pub get_key : Result (List ℕ) LineKind → Result Command ℕ
-get_key (Ok key) = Ok (Get key)
-get_key (Err kind) = Err 4
+-- what a word at this place stands for, and the words behind it
+abbrev pub with_word : {A : Type 0} → ℕ → Option A → (A → Result Command ℕ) → Result Command ℕ
+with_word place None behind = Err place
+with_word place (Some x) behind = behind x
 
--- a word after the key, where that is understood
-abbrev pub too_many : Result (List ℕ) LineKind → Result Command ℕ
-too_many (Ok key) = Err 5
-too_many (Err kind) = Err 4
+-- a key at this place, and no word behind it
+abbrev pub key_words : ℕ → (List ℕ → Command) → List (List ℕ) → Result Command ℕ
+key_words place command [] = Err place
+key_words place command (word ∷ words) = with_word place (result_ok (key_word word)) (λ key. no_more (suc place) (command key) words)
 
 -- `get` has a key
 abbrev pub get_words : List (List ℕ) → Result Command ℕ
-get_words [] = Err 4
-get_words (key ∷ []) = get_key (key_word key)
-get_words (key ∷ word ∷ words) = too_many (key_word key)
+get_words = key_words 4 Get
+
+-- `prove` has a root and a key
+abbrev pub prove_words : List (List ℕ) → Result Command ℕ
+prove_words [] = Err 4
+prove_words (word ∷ words) = with_word 4 (root_word word) (λ root. key_words 5 (Prove root) words)
 
 -- where a store is used, word 1 is its folder, and not `-`
 abbrev pub in_folder : List ℕ → Result Job ℕ → Result Job ℕ
@@ -75,6 +100,8 @@ command_words folder (command ∷ words) =
     if bytes_eq command (codes "root") then job_words (no_words Root) words
     else if bytes_eq command (codes "apply") then in_folder folder (job_words (no_words Apply) words)
     else if bytes_eq command (codes "get") then in_folder folder (job_words get_words words)
+    else if bytes_eq command (codes "prove") then in_folder folder (job_words prove_words words)
+    else if bytes_eq command (codes "verify") then job_words (no_words Verify) words
     else Err 2
 
 -- the job that the words stand for, or the place, counted from 1, of the first word outside the grammar: one past

@@ -1,7 +1,9 @@
 -- How a run ends, and how that is told: by a text and by a number.
 use Rattle.std.specs.Prelude.{ℕ, List}
-use Rattle.text_model.specs.Texts.{LimitKind, done_text, word_text, line_text, no_store_text, branch_text, damaged_text, limit_text, read_text, write_text, disk_text, no_memory_text}
+use Rattle.text_model.specs.Texts.{LimitKind, done_text, word_text, line_text, proof_refused_text, not_held_text, no_store_text, branch_text, damaged_text, limit_text, read_text, write_text, disk_text, no_memory_text}
 use Rattle.store_model.specs.Refusals.{Refusal, NotAStore, BranchDiffers, Damaged}
+use Rattle.proof_model.specs.Checked.{Cause}
+use Rattle.proof_model.specs.CauseWords.{cause_words}
 
 pub data End : Type 0 where
   -- the work is finished
@@ -12,6 +14,10 @@ pub data End : Type 0 where
   BadLine : ℕ → End
   -- the files are not opened as a store
   NotOpened : Refusal → End
+  -- the line of this number is the first whose proof is refused, and this is why
+  VerifyRefused : ℕ → Cause → End
+  -- the store has no map that the root names
+  NotHeld : End
   -- a count reached its limit
   Limit : LimitKind → End
   -- the input could not be read
@@ -35,6 +41,8 @@ end_text Done = done_text
 end_text (BadWords place) = word_text place
 end_text (BadLine number) = line_text number
 end_text (NotOpened why) = refusal_text why
+end_text (VerifyRefused number cause) = proof_refused_text number (cause_words cause)
+end_text NotHeld = not_held_text
 end_text (Limit kind) = limit_text kind
 end_text Read = read_text
 end_text Write = write_text
@@ -47,6 +55,8 @@ end_number Done = 0
 end_number (BadWords place) = 2
 end_number (BadLine number) = 3
 end_number (NotOpened why) = 4
+end_number (VerifyRefused number cause) = 5
+end_number NotHeld = 6
 end_number (Limit kind) = 10
 end_number Read = 20
 end_number Write = 21

@@ -1,9 +1,12 @@
--- Laws of what the first bytes of an input decide.
+-- Laws of what the first bytes of an input decide, and of what the lines of `verify` tell.
 use Rattle.std.specs.Prelude.{◌≡◌, ℕ, List, ◌++◌, Some, None}
+use Rattle.std.specs.List.{AllByRecursion}
+use Rattle.trie_model.specs.Bits.{IsWidth}
 use Rattle.text_model.specs.Lines.{AreWholeLines}
-use Rattle.run_model.specs.End.{Done}
+use Rattle.run_model.specs.End.{End, Done}
 use Rattle.run_model.specs.Outcome.{Outcome}
 use Rattle.run_model.specs.Root.{root_outcome, root_decided}
+use Rattle.run_model.specs.Verify.{verify_outcome, verify_decided, passed, IsTrueLine}
 
 -- what is decided of `root` is the outcome, whatever bytes follow
 abbrev pub DecidedStays : Type 0
@@ -12,3 +15,15 @@ DecidedStays = (w : ℕ) (front rest : List ℕ) (o : Outcome) → root_decided 
 -- where whole lines decide nothing of `root`, an input that ends behind them is one of finished work
 abbrev pub UndecidedRootFinishes : Type 0
 UndecidedRootFinishes = (w : ℕ) (front : List ℕ) → root_decided front ≡ None → AreWholeLines front → (root_outcome w front).end ≡ Done
+
+-- what is decided of `verify` is how it ends, whatever bytes follow
+abbrev pub DecidedVerifyStays : Type 0
+DecidedVerifyStays = (w : ℕ) (front rest : List ℕ) (end : End) → verify_decided w front ≡ Some end → (verify_outcome w (front ++ rest)).end ≡ end
+
+-- where whole lines decide nothing of `verify`, an input that ends behind them is one of finished work
+abbrev pub UndecidedVerifyFinishes : Type 0
+UndecidedVerifyFinishes = (w : ℕ) (front : List ℕ) → verify_decided w front ≡ None → AreWholeLines front → (verify_outcome w front).end ≡ Done
+
+-- lines that pass are true, each of them
+abbrev pub PassedLinesAreTrue : Type 0
+PassedLinesAreTrue = (w : ℕ) (lines : List (List ℕ)) → IsWidth w → AllByRecursion (IsTrueLine w) (passed w lines)

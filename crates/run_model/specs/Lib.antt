@@ -6,7 +6,10 @@ pub mod Root
 pub mod Script
 pub mod Store
 pub mod Apply
+pub mod Reading
 pub mod Get
+pub mod Prove
+pub mod Verify
 pub mod Runs
 pub mod Laws
 pub mod Worked

@@ -33,7 +33,7 @@ abbrev pub PrintsNothing : Outside → Outside → Type 0
 PrintsNothing before after = Appends before.output.taken after.output.taken []
 
 -- the bytes that the input gave decide nothing, so that the outcome hangs on those that it has left
-abbrev pub IsUndecided : (List ℕ → Option Outcome) → Outside → Outside → Type 0
+abbrev pub IsUndecided : {A : Type 0} → (List ℕ → Option A) → Outside → Outside → Type 0
 IsUndecided decided_on before after =
     IfSome before.input.left (λ bytes. IfSome after.input.left (λ rest. (given : List ℕ) × (bytes ≡ given ++ rest) × (decided_on given ≡ None)))
 

@@ -6,14 +6,18 @@ use Rattle.trie_model.specs.Maps.{Map, limits}
 use Rattle.text_model.specs.Lines.{input_limit}
 use Rattle.text_model.specs.Texts.{Input}
 use Rattle.store_model.specs.Refusals.{Refusal, Refused}
+use Rattle.proof_model.specs.Checked.{Cause}
 use Rattle.run_model.specs.Outside.{DiskSeen, Outside}
-use Rattle.run_model.specs.Command.{Command, Root, Apply, Get, Job, job_of, uses_store}
-use Rattle.run_model.specs.End.{End, BadWords, NotOpened, Limit, Read, Write, Disk}
+use Rattle.text_model.specs.Words.{RootWord}
+use Rattle.run_model.specs.Command.{Command, Root, Apply, Get, Prove, Verify, Job, job_of, uses_store, names_map, checks_proofs}
+use Rattle.run_model.specs.End.{End, BadWords, NotOpened, VerifyRefused, NotHeld, Limit, Read, Write, Disk}
 use Rattle.run_model.specs.Outcome.{Outcome, silent, IsComplete}
 use Rattle.run_model.specs.Store.{NeedsStore, RefusalHasCause, on_found}
 use Rattle.run_model.specs.Root.{root_outcome, RootRuns}
 use Rattle.run_model.specs.Apply.{apply_outcome, ApplyRuns}
 use Rattle.run_model.specs.Get.{get_outcome, GetRuns}
+use Rattle.run_model.specs.Prove.{prove_outcome, ProveRuns}
+use Rattle.run_model.specs.Verify.{verify_outcome, VerifyRuns}
 
 -- ---- by command
 -- what a command comes to on this input, where the files of its store are found to be this
@@ -21,12 +25,16 @@ abbrev pub command_outcome : Command → ℕ → Result Map Refusal → List ℕ
 command_outcome Root w found bytes = root_outcome w bytes
 command_outcome Apply w found bytes = on_found (λ m. apply_outcome w m bytes) found
 command_outcome (Get key) w found bytes = on_found (get_outcome key) found
+command_outcome (Prove root key) w found bytes = on_found (prove_outcome w root key) found
+command_outcome Verify w found bytes = verify_outcome w bytes
 
 -- what a command needs of the disk to come to that
 abbrev pub CommandNeeds : Command → ℕ → Outside → Outside → Result Map Refusal → Type 0
 CommandNeeds Root w before after found = Unit {0}
 CommandNeeds Apply w before after found = NeedsStore w before after found
 CommandNeeds (Get key) w before after found = NeedsStore w before after found
+CommandNeeds (Prove root key) w before after found = NeedsStore w before after found
+CommandNeeds Verify w before after found = Unit {0}
 
 -- a wrong word is the outcome whatever the input and the files are
 abbrev pub job_outcome : Result Job ℕ → Result Map Refusal → List ℕ → Outcome
@@ -75,6 +83,15 @@ DiskHasCause faults faults' end = end ≡ Disk → Rose faults faults'
 abbrev pub StoreHasCause : List (List ℕ) → DiskSeen → End → Type 0
 StoreHasCause given disk end = (why : Refusal) → end ≡ NotOpened why → AsksForStore (job_of given) disk why
 
+-- that a map is not held, and that a proof is refused, is told only by the commands that may find it
+pub record IsOwnEnd (command : Command) (end : End) : Type 0 where
+  pub held : end ≡ NotHeld → names_map command ≡ true
+  pub accepted : (number : ℕ) (cause : Cause) → end ≡ VerifyRefused number cause → checks_proofs command ≡ true
+
+-- so it is where the words ask for a command
+abbrev pub TellsOwn : List (List ℕ) → End → Type 0
+TellsOwn given end = (job : Job) → job_of given ≡ Ok job → IsOwnEnd job.command end
+
 -- too much input is told only where what the input had left goes past the limit
 abbrev pub InputLimitHasCause : Option (List ℕ) → End → Type 0
 InputLimitHasCause left end = end ≡ Limit Input → IfSome left (λ bytes. input_limit < length bytes)
@@ -86,6 +103,7 @@ pub record SharedRuns (command : Command) (w : ℕ) (before after : Outside) (en
   pub write : WriteHasCause before.output.faults after.output.faults end
   pub disk : DiskHasCause before.disk.faults after.disk.faults end
   pub store : RefusalHasCause (uses_store command) w before.disk end
+  pub own : IsOwnEnd command end
   pub limit : InputLimitHasCause before.input.left end
   pub complete : IsComplete (CommandNeeds command w) (command_outcome command w) before after end
 
@@ -95,6 +113,8 @@ abbrev pub command_runs : Command → ℕ → Outside → Outside → End → Ty
 command_runs Root w before after end = RootRuns w before after end
 command_runs Apply w before after end = ApplyRuns w before after end
 command_runs (Get key) w before after end = GetRuns key w before after end
+command_runs (Prove root key) w before after end = ProveRuns root key w before after end
+command_runs Verify w before after end = VerifyRuns w before after end
 
 -- where the words ask for it, the run is as the record says
 abbrev pub RootPart : List (List ℕ) → Outside → Outside → End → Type 0
@@ -106,6 +126,12 @@ ApplyPart given before after end = (w : ℕ) → job_of given ≡ Ok (record { w
 abbrev pub GetPart : List (List ℕ) → Outside → Outside → End → Type 0
 GetPart given before after end = (w : ℕ) (key : List ℕ) → job_of given ≡ Ok (record { width = w; command = Get key }) → GetRuns key w before after end
 
+abbrev pub ProvePart : List (List ℕ) → Outside → Outside → End → Type 0
+ProvePart given before after end = (w : ℕ) (root : RootWord) (key : List ℕ) → job_of given ≡ Ok (record { width = w; command = Prove root key }) → ProveRuns root key w before after end
+
+abbrev pub VerifyPart : List (List ℕ) → Outside → Outside → End → Type 0
+VerifyPart given before after end = (w : ℕ) → job_of given ≡ Ok (record { width = w; command = Verify }) → VerifyRuns w before after end
+
 -- all that a run promises: a field for each clause of the top call
 pub record Runs (given : List (List ℕ)) (before after : Outside) (end : End) : Type 0 where
   pub words : TellsWords given end
@@ -114,8 +140,11 @@ pub record Runs (given : List (List ℕ)) (before after : Outside) (end : End) :
   pub write : WriteHasCause before.output.faults after.output.faults end
   pub disk : DiskHasCause before.disk.faults after.disk.faults end
   pub store : StoreHasCause given before.disk end
+  pub own : TellsOwn given end
   pub limit : InputLimitHasCause before.input.left end
   pub complete : IsComplete (Needs given) (outcome given) before after end
   pub root : RootPart given before after end
   pub apply : ApplyPart given before after end
   pub get : GetPart given before after end
+  pub prove : ProvePart given before after end
+  pub verify : VerifyPart given before after end

@@ -6,7 +6,9 @@ use Rattle.sha2.specs.Sha256.{sha256}
 use Rattle.hex.specs.Hex.{encode_lower}
 use Rattle.trie_model.specs.Maps.{Map}
 use Rattle.store_model.specs.Refusals.{Refusal}
-use Rattle.run_model.specs.End.{Done, BadWords, BadLine}
+use Rattle.proof_model.specs.Checked.{NotRead}
+use Rattle.proof_model.specs.Wire.{Flag}
+use Rattle.run_model.specs.End.{Done, BadWords, BadLine, VerifyRefused}
 use Rattle.run_model.specs.Outcome.{Outcome, silent}
 use Rattle.run_model.specs.Runs.{outcome}
 
@@ -73,6 +75,14 @@ WrongWordRuns =
     × (outcome (codes "D" ∷ codes "get" ∷ codes "16" ∷ codes "6" ∷ []) found bytes ≡ silent (BadWords 4))
     × (outcome (codes "D" ∷ codes "get" ∷ codes "16" ∷ codes "6b" ∷ codes "6b" ∷ []) found bytes ≡ silent (BadWords 5))
     × (outcome (codes "D" ∷ codes "get" ∷ codes "16" ∷ codes "6" ∷ codes "6b" ∷ []) found bytes ≡ silent (BadWords 4))
+    -- `prove` has a root and a key, and `verify` no words of its own
+    × (outcome (codes "-" ∷ codes "prove" ∷ codes "16" ∷ codes "now" ∷ codes "6b" ∷ []) found bytes ≡ silent (BadWords 1))
+    × (outcome (codes "D" ∷ codes "prove" ∷ codes "16" ∷ []) found bytes ≡ silent (BadWords 4))
+    × (outcome (codes "D" ∷ codes "prove" ∷ codes "16" ∷ codes "Now" ∷ codes "6" ∷ []) found bytes ≡ silent (BadWords 4))
+    × (outcome (codes "D" ∷ codes "prove" ∷ codes "16" ∷ codes "~1" ∷ []) found bytes ≡ silent (BadWords 5))
+    × (outcome (codes "D" ∷ codes "prove" ∷ codes "16" ∷ codes "empty" ∷ codes "6" ∷ []) found bytes ≡ silent (BadWords 5))
+    × (outcome (codes "D" ∷ codes "prove" ∷ codes "16" ∷ codes "now" ∷ codes "6b" ∷ codes "6b" ∷ []) found bytes ≡ silent (BadWords 6))
+    × (outcome (codes "-" ∷ codes "verify" ∷ codes "16" ∷ codes "now" ∷ []) found bytes ≡ silent (BadWords 4))
 
 -- inputs with a line outside the grammar
 abbrev pub WrongLineRuns : Type 0
@@ -103,3 +113,14 @@ abbrev pub KeyLimitRuns : Type 0
 KeyLimitRuns =
     PrintsZeros (root_16 (codes "del " ++ replicate 512 0x30))
     × (root_16 (codes "del " ++ replicate 514 0x30) ≡ silent (BadLine 1))
+
+-- `mdb - verify 16` on an input
+abbrev pub verify_16 : List ℕ → Outcome
+verify_16 bytes = outcome (codes "-" ∷ codes "verify" ∷ codes "16" ∷ []) (Ok map_of.empty) bytes
+
+-- lines of proofs: that the empty map has nothing at a key is shown by no node. And bytes that are no proof
+abbrev pub VerifyRuns : Type 0
+VerifyRuns =
+    (verify_16 (codes "point empty 6b 01040000\n# x\npoint empty - 01040000") ≡ prints (codes "ok 0\nok 0\n"))
+    × (verify_16 (codes "point empty 6b 01040000\nput 6b 76\n") ≡ record { end = BadLine 2; text = codes "ok 0\n" })
+    × (verify_16 (codes "point empty 6b 01040000\n\npoint empty 6b 010402\nx\n") ≡ record { end = VerifyRefused 3 (NotRead (record { at = 2; kind = Flag })); text = codes "ok 0\n" })

@@ -6,8 +6,10 @@
 //! worked values. Nothing here fails, and nothing here takes memory.
 #![tactic(auto)]
 
-ghost use Rattle.run_model.specs.Laws.{DecidedStays, UndecidedRootFinishes};
-ghost use Rattle.run_model.specs.Worked.{OnePairRuns, EmptyRuns, WrongWordRuns, WrongLineRuns, KeyLimitRuns};
+ghost use Rattle.run_model.specs.Laws.{DecidedStays, UndecidedRootFinishes, DecidedVerifyStays, UndecidedVerifyFinishes, PassedLinesAreTrue};
+ghost use Rattle.run_model.specs.Worked.{OnePairRuns, EmptyRuns, WrongWordRuns, WrongLineRuns, KeyLimitRuns, VerifyRuns};
+
+use proof_model::{accepted_points_are_true, read_points_are_spelled};
 
 /// What the first bytes of an input decide of `root`, the whole input does not change.
 pub fn decided_stays()
@@ -18,6 +20,24 @@ pub fn decided_stays()
 pub fn undecided_root_finishes()
     ensures { UndecidedRootFinishes }
 {}
+
+/// What the first bytes of an input decide of `verify`, the whole input does not change.
+pub fn decided_verify_stays()
+    ensures { DecidedVerifyStays }
+{}
+
+/// Where whole lines decide nothing of `verify`, an input that ends behind them is one of finished work.
+pub fn undecided_verify_finishes()
+    ensures { UndecidedVerifyFinishes }
+{}
+
+/// What a line of `verify` shows that passes is so in every map with its root, or SHA-256 is broken.
+pub fn passed_lines_are_true()
+    ensures { PassedLinesAreTrue }
+{
+    accepted_points_are_true();
+    read_points_are_spelled();
+}
 
 /// Inputs that make the map of one pair, and the line that is printed.
 pub fn one_pair_runs()
@@ -42,4 +62,9 @@ pub fn wrong_line_runs()
 /// A key on both sides of its limit.
 pub fn key_limit_runs()
     ensures { KeyLimitRuns }
+{}
+
+/// Lines of proofs, and the first one that does not pass.
+pub fn verify_runs()
+    ensures { VerifyRuns }
 {}

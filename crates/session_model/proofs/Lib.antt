@@ -6,3 +6,4 @@ pub mod Acknowledged
 pub mod Deciding
 pub mod WorkedScripts
 pub mod ViewRoots
+pub mod NamedMaps

@@ -10,15 +10,16 @@ use Rattle.base_model.specs.Fields.{◌>>=◌}
 use Rattle.trie_model.specs.Maps.{Map, key_limit, value_limit, limits, root}
 use Rattle.batch_model.specs.Batch.{IsChange, after_batch}
 use Rattle.text_model.specs.Lines.{is_overlong}
-use Rattle.text_model.specs.LineKind.{LineKind, TooLong, Word, Number, Place, LongKey, LongValue}
-use Rattle.text_model.specs.ReadLine.{Line, Skip, Put, Del, Commit, View, Take, Close, State, Get, Root, Script, is_comment, at_most, key_word, value_word, one_word, two_words, put_line, del_line, number_line, place_line, get_line, commit_words, script_words, line_of_words, read_line}
-use Rattle.text_model.specs.Texts.{LimitKind, Pairs, Batch, closed_text, value_text, root_text}
-use Rattle.text_model.specs.Words.{PlaceWord, words_of, hex_word, number_word, place_word}
+use Rattle.text_model.specs.LineKind.{LineKind, TooLong, Word, Number, Place, LongKey, LongValue, Root as NoRoot}
+use Rattle.text_model.specs.ReadLine.{Line, Skip, Put, Del, Commit, View, Take, Close, State, Get, Root, Prove, Point, Script, is_comment, at_most, key_word, value_word, one_word, two_words, put_line, del_line, number_line, place_line, get_line, prove_line, commit_words, script_words, line_of_words, read_line}
+use Rattle.text_model.specs.Texts.{LimitKind, Pairs, Batch, closed_text, value_text, root_text, proof_text}
+use Rattle.text_model.specs.Words.{PlaceWord, words_of, hex_word, number_word, place_word, root_word}
 use Rattle.view_model.specs.Calls.{Refusal, number_limit, view_refused, parent_refused, make_refused, closed}
 use Rattle.view_model.specs.Forest.{ViewState, state, payload}
 use Rattle.session_model.specs.Limits.{pairs_limit, payload_limit}
 use Rattle.session_model.specs.Refusals.{cause_words, take_refused}
-use Rattle.session_model.specs.Session.{Session, Step, quiet, prints, refuses, pend, committed, commit_step, commit, view_at, map_at, viewed, view_step, view_unless, view, taken, taken_map, take_step, take_unless, take as take_view, close_unless, close, told_state, told_unless, told, line_step, or_limit, read_step, step}
+use Rattle.session_model.specs.Named.{proved, not_held}
+use Rattle.session_model.specs.Session.{Session, Step, quiet, prints, refuses, pend, committed, commit_step, commit, view_at, map_at, viewed, view_step, view_unless, view, taken, taken_map, take_step, take_unless, take as take_view, close_unless, close, told_state, told_unless, told, told_proof, line_step, or_limit, read_step, step}
 
 -- ---- what lines ask for
 
@@ -89,6 +90,9 @@ asks_place line asks = one_asks (place_line line) (λ word. made_asks (ok_or (pl
 asks_get : (words : List (List ℕ)) → IfOk (two_words get_line words) Asks
 asks_get = two_ask get_line (λ place key. get_asks (ok_or (place_word place) Place) (key_word key) Get (λ p k. tt))
 
+asks_proof : (words : List (List ℕ)) → IfOk (two_words prove_line words) Asks
+asks_proof = two_ask prove_line (λ root key. get_asks (ok_or (root_word root) NoRoot) (key_word key) Prove (λ r k. tt))
+
 puts_ask : (words : List (List ℕ)) → IfOk (two_words put_line words) Asks
 puts_ask = two_ask put_line (λ key value. put_asks (key_word key) (value_word value) (within key_limit LongKey (hex_word key)) (within value_limit LongValue (hex_word value)))
 
@@ -107,7 +111,8 @@ scripts_ask command words =
     (by_word command (codes "close") (one_word (number_line Close) words) _ (asks_number Close (λ n. tt) words)
     (by_word command (codes "state") (one_word (number_line State) words) _ (asks_number State (λ n. tt) words)
     (by_word command (codes "get") (two_words get_line words) _ (asks_get words)
-    (by_word command (codes "root") (one_word (place_line Root) words) (Err Word) (asks_place Root (λ p. tt) words) tt))))))
+    (by_word command (codes "root") (one_word (place_line Root) words) _ (asks_place Root (λ p. tt) words)
+    (by_word command (codes "prove") (two_words prove_line words) (Err Word) (asks_proof words) tt)))))))
 
 words_ask : (words : List (List ℕ)) → IfOk (line_of_words Script words) Asks
 words_ask [] = tt
@@ -185,6 +190,10 @@ module _ (P : Session × Step → Type 0) (w : ℕ) (s : Session) (h : Holds P w
       go (Some why) = h.still (refuses (cause_words why)) refl
       go None = h.still (prints (text (map_at s place))) refl
 
+  of_proof : (found : Option (List ℕ)) → P (s, told_proof found)
+  of_proof None = h.still (refuses not_held) refl
+  of_proof (Some bytes) = h.still (prints (proof_text bytes)) refl
+
   of_line : (line : Line) → Asks line → IfOk (line_step w s line) P
   of_line Skip asks = h.still quiet refl
   of_line (Put key value) asks = h.pends key (Some value) asks
@@ -196,6 +205,8 @@ module _ (P : Session × Step → Type 0) (w : ℕ) (s : Session) (h : Holds P w
   of_line (State n) asks = of_state n
   of_line (Get place key) asks = of_told place (λ m. value_text (map_of.get m key))
   of_line (Root place) asks = of_told place (λ m. root_text (root w m))
+  of_line (Prove word key) asks = of_proof (proved w s.map word key)
+  of_line (Point root key proof) asks = h.still quiet refl
 
   of_read : (n : ℕ) (read : Result Line LineKind) → IfOk read Asks → IfOk (read_step w n s read) P
   of_read n (Err kind) asks = tt

@@ -1,5 +1,5 @@
 -- The worked scripts, by computing.
-use Rattle.std.proofs.Common.{◌≡◌, ℕ, suc, ◌+◌, List, [], ◌∷◌, ◌++◌, length, None, Result, Ok, refl, ap, ◌∙◌, false, true, nat_lt, nat_le}
+use Rattle.std.proofs.Common.{◌≡◌, ℕ, suc, ◌+◌, List, [], ◌∷◌, ◌++◌, length, map, Option, None, Result, Ok, refl, sym, ap, ◌∙◌, arith, false, true, nat_lt, nat_le}
 use Rattle.std.specs.Fmt.{digits}
 use Rattle.std.specs.FinMap as map_of
 use Rattle.std.specs.List.{filter_map}
@@ -8,18 +8,24 @@ use Rattle.std.specs.Str.Lines.{lines}
 use Rattle.hex.specs.Hex.{decode_pairs}
 use Rattle.base_model.specs.Uvarint.{uvarint}
 use Rattle.base_model.specs.Bytes.{bytes_cmp}
-use Rattle.trie_model.specs.Maps.{Map}
+use Rattle.trie_model.specs.Bits.{bits_of_bytes}
+use Rattle.trie_model.specs.Maps.{Map, entry_item}
+use Rattle.trie_model.specs.Table.{items_table, node_keys}
+use Rattle.proof_model.specs.Paths.{shown_row, path_rows}
+use Rattle.proof_model.specs.Wire.{point_form}
 use Rattle.batch_model.specs.Batch.{after_batch}
 use Rattle.view_model.specs.Calls.{number_limit}
 use Rattle.view_model.specs.Forest.{payload}
 use Rattle.text_model.specs.LineKind.{LineKind}
-use Rattle.text_model.specs.Texts.{LimitKind}
+use Rattle.text_model.specs.Texts.{LimitKind, commit_text, proof_text}
 use Rattle.text_model.specs.ReadLine.{Line, Commit, Take, Script, read_line}
 use Rattle.session_model.specs.Limits.{pairs_limit, payload_limit}
 use Rattle.session_model.specs.Refusals.{take_refused}
+use Rattle.proof_model.specs.Held.{no_map}
+use Rattle.session_model.specs.Named.{proof_of}
 use Rattle.session_model.specs.Session.{Session, Step, start, committed, commit_step, commit, or_limit, taken, taken_map, take_step, read_step, step}
 use Rattle.session_model.specs.Script.{Played, play, and_then, ended}
-use Rattle.session_model.specs.Worked.{WorkedScripts, ViewScripts, ClosedLines, RefusedLines, no_map, maybe_text, with, one_pair, a}
+use Rattle.session_model.specs.Worked.{WorkedScripts, ViewScripts, ClosedLines, RefusedLines, ProvedLines, no_proof, maybe_text, with, one_pair, a, root_of}
 use Rattle.session_model.proofs.Playing.{put_first, followed, play-done, play-on}
 
 -- ---- maps of so few pairs are within the limit
@@ -170,4 +176,31 @@ refused_lines = (
   rw small_none refl,
   ap (λ (r : Result (Session × Step) LimitKind). filter_map (λ (t : Step). maybe_text t.text) (and_then reading r).steps) last_commit,
   rw nothing_there refl,
+)
+
+-- ---- proofs
+
+no_pairs : (n : ℕ) (es : List (List ℕ × List ℕ)) → length es ≡ n → n ≡ 0 → es ≡ []
+no_pairs n [] size none = refl
+no_pairs n (e ∷ es) size none = let no : ⊥ = omega (arith, size, none) in absurd no
+
+entries-empty : map_of.entries no_map ≡ []
+entries-empty = no_pairs (map_of.len no_map) (map_of.entries no_map) (sym (map_of.len-entries no_map)) (map_of.len-empty bytes_cmp (List ℕ))
+
+-- a key is proved not to be in the empty map by no node
+empty_proof : (key : List ℕ) → proof_of 4 key no_map ≡ no_proof
+unfolding path_rows items_table node_keys uvarint
+empty_proof key = ap (λ v. shown v (map_of.entries no_map)) (map_of.get-empty bytes_cmp key) ∙ ap (shown None) entries-empty
+  where
+    shown : Option (List ℕ) → List (List ℕ × List ℕ) → List ℕ
+    shown v es = point_form (record { value = v; path = map shown_row (path_rows 4 (bits_of_bytes key) (items_table 4 (map entry_item es))) })
+
+two_proofs : List ℕ → List ℕ → List (List ℕ)
+two_proofs a b = proof_text a ∷ proof_text b ∷ codes "refused not held\n" ∷ []
+
+pub proved_lines : ProvedLines
+unfolding decode_pairs uvarint two_proofs
+proved_lines = (
+  ap (λ a. two_proofs a (proof_of 4 [] no_map)) (empty_proof (0x6b ∷ [])) ∙ ap (two_proofs no_proof) (empty_proof []),
+  rw small_pair (ap (λ a. proof_text a ∷ commit_text 1 (root_of one_pair) ∷ []) (empty_proof (0x6b ∷ []))),
 )

@@ -4,14 +4,15 @@ use Rattle.std.specs.FinMap as map_of
 use Rattle.trie_model.specs.Maps.{Map, root}
 use Rattle.batch_model.specs.Batch.{Change, set_change, after_batch}
 use Rattle.text_model.specs.LineKind.{LineKind}
-use Rattle.text_model.specs.ReadLine.{Line, Skip, Put, Del, Commit, View, Take, Close, State, Get, Root, Script, read_line}
-use Rattle.text_model.specs.Texts.{LimitKind, Pairs, Batch, commit_text, view_text, taken_text, closed_text, state_text, refused_text, value_text, root_text}
+use Rattle.text_model.specs.ReadLine.{Line, Skip, Put, Del, Commit, View, Take, Close, State, Get, Root, Prove, Point, Script, read_line}
+use Rattle.text_model.specs.Texts.{LimitKind, Pairs, Batch, commit_text, view_text, taken_text, closed_text, state_text, refused_text, value_text, root_text, proof_text}
 use Rattle.text_model.specs.Words.{PlaceWord, Db, View as OfView}
 use Rattle.view_model.specs.Calls.{Refusal, number_limit, view_refused, parent_refused, make_refused, made, directed, closed, committed as with_committed}
 use Rattle.view_model.specs.Forest.{Forest, ViewState, no_views, state, next_number, payload}
 use Rattle.view_model.specs.Maps.{changes_of, view_map}
 use Rattle.session_model.specs.Limits.{pairs_limit, payload_limit}
 use Rattle.session_model.specs.Refusals.{state_word, cause_words, take_refused}
+use Rattle.session_model.specs.Named.{proved, not_held}
 
 -- a script at work: the map of the store, the views, and the changes that no commit and no view has taken so far
 pub record Session : Type 0 where
@@ -145,9 +146,14 @@ told_unless None text = prints text
 abbrev pub told : Session → PlaceWord → (Map → List ℕ) → Step
 told s place text_of = told_unless (parent_refused s.views (view_at place)) (text_of (map_at s place))
 
+-- what is told of a proof, where there is a map that it is of
+abbrev pub told_proof : Option (List ℕ) → Step
+told_proof None = refuses not_held
+told_proof (Some bytes) = prints (proof_text bytes)
+
 -- ---- a line
 
--- what a line does
+-- what a line does. A script has no lines that check a proof
 abbrev pub line_step : ℕ → Session → Line → Result (Session × Step) LimitKind
 line_step w s Skip = Ok (s, quiet)
 line_step w s (Put key value) = Ok (pend s key (Some value), quiet)
@@ -159,6 +165,8 @@ line_step w s (Close n) = Ok (close s n)
 line_step w s (State n) = Ok (s, told_state n (state s.views n))
 line_step w s (Get place key) = Ok (s, told s place (λ m. value_text (map_of.get m key)))
 line_step w s (Root place) = Ok (s, told s place (λ m. root_text (root w m)))
+line_step w s (Prove word key) = Ok (s, told_proof (proved w s.map word key))
+line_step w s (Point root key proof) = Ok (s, quiet)
 
 abbrev pub or_limit : Result (Session × Step) LimitKind → Result (Session × Step) Stop
 or_limit (Ok next) = Ok next

@@ -3,7 +3,10 @@ use Rattle.std.specs.Prelude.{◌≡◌, ℕ, List, [], ◌∷◌, codes, Option
 use Rattle.std.specs.List.{filter_map}
 use Rattle.std.specs.FinMap as map_of
 use Rattle.trie_model.specs.Maps.{Map, root}
-use Rattle.text_model.specs.Texts.{commit_text, view_text, taken_text, state_text, root_text}
+use Rattle.text_model.specs.Texts.{commit_text, view_text, taken_text, state_text, root_text, proof_text}
+use Rattle.text_model.specs.Words.{Id, Now, Empty, Back}
+use Rattle.proof_model.specs.Held.{no_map}
+use Rattle.session_model.specs.Named.{held, named}
 use Rattle.session_model.specs.Session.{Step, Stop, BadLine, quiet}
 use Rattle.session_model.specs.Script.{script}
 
@@ -22,9 +25,6 @@ stopped bytes = (script 4 map_of.empty bytes).stop
 -- a map with one pair more
 abbrev pub with : ℕ → ℕ → Map → Map
 with key value m = map_of.insert m (key ∷ []) (value ∷ [])
-
-abbrev pub no_map : Map
-no_map = map_of.empty
 
 abbrev pub one_pair : Map
 one_pair = with 0x6b 0x76 no_map
@@ -81,3 +81,19 @@ RefusedLines =
     -- what is pending is not read
     × (printed (codes "put 0a 61\nroot db\nroot 1\n") ≡ root_text (root_of no_map) ∷ codes "refused unknown\n" ∷ commit_text 1 (root_of a) ∷ [])
     × (printed (codes "get db 0a\n") ≡ codes "none\n" ∷ [])
+
+-- the present map has names, and the empty map has one where it is not the present one; no other map has one
+abbrev pub NamedMaps : Type 0
+NamedMaps =
+    (m : Map) → (named 4 (held m) Now ≡ Some m) × (named 4 (held m) (Back 0) ≡ Some m) × (named 4 (held m) (Back 1) ≡ None)
+    × (named 4 (held m) (Id (root_of m)) ≡ Some m) × (named 4 (held no_map) Empty ≡ Some no_map)
+
+-- the bytes of a proof that shows no value and no node
+abbrev pub no_proof : List ℕ
+no_proof = 0x01 ∷ 0x04 ∷ 0x00 ∷ 0x00 ∷ []
+
+-- proofs of a key in the empty map, under two of its names, and in a map that the store has not. What is pending is not proved
+abbrev pub ProvedLines : Type 0
+ProvedLines =
+    (printed (codes "prove now 6b\nprove ~0 -\nprove ~1 6b\n") ≡ proof_text no_proof ∷ proof_text no_proof ∷ codes "refused not held\n" ∷ [])
+    × (printed (codes "put 6b 76\nprove now 6b\n") ≡ proof_text no_proof ∷ commit_text 1 (root_of one_pair) ∷ [])

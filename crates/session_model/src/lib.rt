@@ -1,13 +1,13 @@
 //! Words for scripts: what each line does to a store and its views, what a whole input prints and commits, and where it stops.
 //!
 //! It stands on `text_model` for the lines and the texts, on `view_model` for the views, on
-//! `batch_model` for the batches and on `trie_model` for the roots. It holds no code: each function is empty, and its contract is a law of
-//! the definitions in `specs/`, or some of their worked values. Nothing here fails, and nothing here
-//! takes memory.
+//! `batch_model` for the batches, on `trie_model` for the roots and on `proof_model` for the proofs.
+//! It holds no code: each function is empty, and its contract is a law of the definitions in `specs/`,
+//! or some of their worked values. Nothing here fails, and nothing here takes memory.
 #![tactic(auto)]
 
 ghost use Rattle.session_model.specs.Laws.{StepsMakeTheMap, MapsEndThere, DecidedStops, AcknowledgedStand, ViewRootsStay};
-ghost use Rattle.session_model.specs.Worked.{WorkedScripts, ViewScripts, ClosedLines, RefusedLines};
+ghost use Rattle.session_model.specs.Worked.{WorkedScripts, ViewScripts, ClosedLines, RefusedLines, NamedMaps, ProvedLines};
 
 /// The map at which a script stands is that after its steps.
 pub fn steps_make_the_map()
@@ -52,4 +52,14 @@ pub fn closed_lines()
 /// Lines that are refused, and lines that only read.
 pub fn refused_lines()
     ensures { RefusedLines }
+{}
+
+/// Which maps have a name in a store, for a script as for a command.
+pub fn named_maps()
+    ensures { NamedMaps }
+{}
+
+/// Proofs of keys in the maps that roots name.
+pub fn proved_lines()
+    ensures { ProvedLines }
 {}

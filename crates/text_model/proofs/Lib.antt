@@ -1,7 +1,9 @@
 pub mod FirstBad
 pub mod LinesWithin
 pub mod SettledLines
+pub mod WordBytes
 pub mod MapOfLines
+pub mod PointLines
 pub mod LastLine
 pub mod PrintedBytes
 pub mod RootText

@@ -1,13 +1,13 @@
 -- The lines of an input of which only the front is read.
-use Rattle.std.proofs.Common.{◌≡◌, ℕ, ◌+◌, ◌-◌, ◌≤◌, ◌==◌, Bool, true, false, nat_le, cond, List, [], ◌∷◌, ◌++◌, length, take, drop, slice_index, refl, sym, ap, ◌∙◌, Option, Some, arith, length-append, take-append-drop}
+use Rattle.std.proofs.Common.{◌≡◌, ℕ, ◌+◌, ◌-◌, ◌≤◌, ◌==◌, Bool, true, false, nat_le, cond, List, [], ◌∷◌, ◌++◌, length, take, drop, slice_index, refl, sym, ap, ◌∙◌, Option, Some, None, arith, length-append, take-append-drop}
 use Rattle.std.specs.List.{slice_split, onto_first}
+use Rattle.std.specs.Option.{option_or}
 use Rattle.std.specs.Str.Lines.{lines, lines_of_parts, strip_carriage_return}
 use Rattle.std.proofs.lemmas.Bool.Decides.{nat_tests}
 use Rattle.std.proofs.lemmas.List.{take-append-le, length-take-le, append-nil}
 use Rattle.text_model.specs.Lines.{is_newline, is_overlong, cut_line, lines_of_cut, settled_lines, lines_within}
-use Rattle.text_model.specs.FirstBad.{first_bad}
-use Rattle.text_model.specs.Laws.{CutLines, RefusesOverlong, BadLineStays, OverlongLinesAreBad}
-use Rattle.text_model.proofs.FirstBad.{bad_first}
+use Rattle.text_model.specs.FirstBad.{first_told, first_bad}
+use Rattle.text_model.specs.Laws.{CutLines, RefusesOverlong, TellsOverlong, BadLineStays, OverlongLinesAreBad}
 
 cut_front : (limit : ℕ) (front x : List ℕ) → length front ≡ limit + 1 → lines_within limit (front ++ x) ≡ settled_lines (take limit front)
 cut_front limit front x long =
@@ -117,42 +117,70 @@ pub line_and : (f : List (List ℕ) → List (List ℕ)) → MakesLines f → (p
 line_and f makes p [] h = let no : ⊥ = cc h.is in absurd no
 line_and f makes p (r ∷ ps) h = makes.next p r ps
 
--- a part that is too long is a bad line, whatever follows it
-long_part : (good : List ℕ → Bool) → RefusesOverlong good → (f : List (List ℕ) → List (List ℕ)) → MakesLines f → (n : ℕ) (p q : List ℕ) (qs : List (List ℕ)) → is_overlong (strip_carriage_return p) ≡ true → first_bad good n (f ((p ++ q) ∷ qs)) ≡ Some n
-long_part good refuses f makes n p q [] h =
-    let last = makes.long (p ++ q) (grown p q h) in
-    ap (first_bad good n) last.1 ∙ bad_first good n last.0 [] (refuses last.0 last.2)
-long_part good refuses f makes n p q (next ∷ qs) h =
-    ap (first_bad good n) (makes.next (p ++ q) next qs)
-    ∙ bad_first good n (strip_carriage_return (p ++ q)) (f (next ∷ qs)) (refuses (strip_carriage_return (p ++ q)) (grown p q h))
+module _ {X : Type 0} (tells : ℕ → List ℕ → Option X) (long : ℕ → X) (over : TellsOverlong tells long) where
+  -- of a line that is too long it is told that it is
+  first_long : (n : ℕ) (line : List ℕ) (others : List (List ℕ)) → is_overlong line ≡ true → first_told tells n (line ∷ others) ≡ Some (long n)
+  first_long n line others h = ap (λ o. option_or o (first_told tells (n + 1) others)) (over n line h)
 
-cut_bad : (good : List ℕ → Bool) → RefusesOverlong good → (f : List (List ℕ) → List (List ℕ)) → MakesLines f → (n k : ℕ) (p q : List ℕ) (qs : List (List ℕ)) → first_bad good n (cut_line p) ≡ Some k → first_bad good n (f ((p ++ q) ∷ qs)) ≡ Some k
-cut_bad good refuses f makes n k p q qs = go (is_overlong (strip_carriage_return p)) refl
+  -- so it is of a part that is too long, whatever follows it
+  long_part : (f : List (List ℕ) → List (List ℕ)) → MakesLines f → (n : ℕ) (p q : List ℕ) (qs : List (List ℕ)) → is_overlong (strip_carriage_return p) ≡ true → first_told tells n (f ((p ++ q) ∷ qs)) ≡ Some (long n)
+  long_part f makes n p q [] h =
+      let last = makes.long (p ++ q) (grown p q h) in
+      ap (first_told tells n) last.1 ∙ first_long n last.0 [] last.2
+  long_part f makes n p q (next ∷ qs) h =
+      ap (first_told tells n) (makes.next (p ++ q) next qs)
+      ∙ first_long n (strip_carriage_return (p ++ q)) (f (next ∷ qs)) (grown p q h)
+
+  cut_told : (f : List (List ℕ) → List (List ℕ)) → MakesLines f → (n : ℕ) (x : X) (p q : List ℕ) (qs : List (List ℕ)) → first_told tells n (cut_line p) ≡ Some x → first_told tells n (f ((p ++ q) ∷ qs)) ≡ Some x
+  cut_told f makes n x p q qs = go (is_overlong (strip_carriage_return p)) refl
+    where
+      go : (b : Bool) → is_overlong (strip_carriage_return p) ≡ b → first_told tells n (cond b (strip_carriage_return p ∷ []) []) ≡ Some x → first_told tells n (f ((p ++ q) ∷ qs)) ≡ Some x
+      go true is h = long_part f makes n p q qs is ∙ sym (first_long n (strip_carriage_return p) [] is) ∙ h
+      go false is h = let no : ⊥ = cc h in absurd no
+
+  -- after a line, what is told of the later ones
+  later_told : (o : Option X) (x : X) (later later' : Option X) → (later ≡ Some x → later' ≡ Some x) → option_or o later ≡ Some x → option_or o later' ≡ Some x
+  later_told None x later later' stays h = stays h
+  later_told (Some y) x later later' stays h = h
+
+  -- what is told of the parts of a front is told of the whole
+  told_on : (f : List (List ℕ) → List (List ℕ)) → MakesLines f → (n : ℕ) (x : X) (ps qs : List (List ℕ)) → IsPart qs → first_told tells n (lines_of_cut ps) ≡ Some x → first_told tells n (f (joined ps qs)) ≡ Some x
+  unfolding joined
+  told_on f makes n x [] qs some h = let no : ⊥ = cc h in absurd no
+  told_on f makes n x (p ∷ []) [] some h = let no : ⊥ = cc some.is in absurd no
+  told_on f makes n x (p ∷ []) (q ∷ qs) some h = cut_told f makes n x p q qs h
+  told_on f makes n x (p ∷ r ∷ ps) qs some h =
+      ap (first_told tells n) (line_and f makes p (joined (r ∷ ps) qs) (joined_parts (r ∷ ps) qs some))
+      ∙ later_told (tells n (strip_carriage_return p)) x (first_told tells (n + 1) (lines_of_cut (r ∷ ps))) (first_told tells (n + 1) (f (joined (r ∷ ps) qs))) (told_on f makes (n + 1) x (r ∷ ps) qs some) h
+
+  -- what is told of the lines that the first bytes of a text settle is told of the text
+  pub settled_told : (f : List (List ℕ) → List (List ℕ)) → MakesLines f → (n : ℕ) (x : X) (front rest : List ℕ) → first_told tells n (settled_lines front) ≡ Some x → first_told tells n (f (slice_split is_newline (front ++ rest))) ≡ Some x
+  settled_told f makes n x front rest h =
+      ap (λ (ps : List (List ℕ)). first_told tells n (f ps)) (split_joined front rest)
+      ∙ told_on f makes n x (slice_split is_newline front) (slice_split is_newline rest) (parts rest) h
+
+-- ---- bad lines, by a test
+-- a bad line, by its number
+abbrev pub bad_number : (List ℕ → Bool) → ℕ → List ℕ → Option ℕ
+bad_number good n line = cond (good line) None (Some n)
+
+-- the first bad line is the first one of which its number is told
+pub first_bad-told : (good : List ℕ → Bool) (n : ℕ) (ls : List (List ℕ)) → first_bad good n ls ≡ first_told (bad_number good) n ls
+first_bad-told good n [] = refl
+first_bad-told good n (line ∷ ls) = go (good line) (first_bad-told good (n + 1) ls)
   where
-    go : (b : Bool) → is_overlong (strip_carriage_return p) ≡ b → first_bad good n (cond b (strip_carriage_return p ∷ []) []) ≡ Some k → first_bad good n (f ((p ++ q) ∷ qs)) ≡ Some k
-    go true long h = long_part good refuses f makes n p q qs long ∙ sym (bad_first good n (strip_carriage_return p) [] (refuses (strip_carriage_return p) long)) ∙ h
-    go false short h = let no : ⊥ = cc h in absurd no
+    go : (b : Bool) → first_bad good (n + 1) ls ≡ first_told (bad_number good) (n + 1) ls → cond b (first_bad good (n + 1) ls) (Some n) ≡ option_or (cond b None (Some n)) (first_told (bad_number good) (n + 1) ls)
+    go true later = later
+    go false later = refl
 
--- after a line, what is told of the later ones
-later_bad : (b : Bool) (n k : ℕ) (x y : Option ℕ) → (x ≡ Some k → y ≡ Some k) → cond b x (Some n) ≡ Some k → cond b y (Some n) ≡ Some k
-later_bad false n k x y later h = h
-later_bad true n k x y later h = later h
-
--- a bad line among the parts of a front is one of the whole
-bad_on : (good : List ℕ → Bool) → RefusesOverlong good → (f : List (List ℕ) → List (List ℕ)) → MakesLines f → (n k : ℕ) (ps qs : List (List ℕ)) → IsPart qs → first_bad good n (lines_of_cut ps) ≡ Some k → first_bad good n (f (joined ps qs)) ≡ Some k
-unfolding joined
-bad_on good refuses f makes n k [] qs some h = let no : ⊥ = cc h in absurd no
-bad_on good refuses f makes n k (p ∷ []) [] some h = let no : ⊥ = cc some.is in absurd no
-bad_on good refuses f makes n k (p ∷ []) (q ∷ qs) some h = cut_bad good refuses f makes n k p q qs h
-bad_on good refuses f makes n k (p ∷ r ∷ ps) qs some h =
-    ap (first_bad good n) (line_and f makes p (joined (r ∷ ps) qs) (joined_parts (r ∷ ps) qs some))
-    ∙ later_bad (good (strip_carriage_return p)) n k (first_bad good (n + 1) (lines_of_cut (r ∷ ps))) (first_bad good (n + 1) (f (joined (r ∷ ps) qs))) (bad_on good refuses f makes (n + 1) k (r ∷ ps) qs some) h
+pub bad_overlong : (good : List ℕ → Bool) → RefusesOverlong good → TellsOverlong (bad_number good) (λ n. n)
+bad_overlong good refuses n line h = ap (λ b. cond b None (Some n)) (refuses line h)
 
 -- a bad line that the first bytes of a text settle is the first bad line of the text
 pub settled_bad : (good : List ℕ → Bool) → RefusesOverlong good → (f : List (List ℕ) → List (List ℕ)) → MakesLines f → (n : ℕ) (front rest : List ℕ) → first_bad good 1 (settled_lines front) ≡ Some n → first_bad good 1 (f (slice_split is_newline (front ++ rest))) ≡ Some n
 settled_bad good refuses f makes n front rest h =
-    ap (λ (ps : List (List ℕ)). first_bad good 1 (f ps)) (split_joined front rest)
-    ∙ bad_on good refuses f makes 1 n (slice_split is_newline front) (slice_split is_newline rest) (parts rest) h
+    first_bad-told good 1 (f (slice_split is_newline (front ++ rest)))
+    ∙ settled_told (bad_number good) (λ n. n) (bad_overlong good refuses) f makes 1 n front rest (sym (first_bad-told good 1 (settled_lines front)) ∙ h)
 
 -- a bad line within the limit is the first bad line of the whole
 pub bad_line_stays : BadLineStays

@@ -1,29 +1,25 @@
 -- What lines make is a map: each line keeps it one.
-use Rattle.std.proofs.Common.{◌≡◌, ℕ, suc, ◌≤◌, ◌==◌, Bool, true, false, nat_le, cond, List, [], ◌∷◌, length, refl, sym, ◌∙◌, subst, inl, inr, Option, Some, None, Result, Ok, Err, Ordering, Less, Equal, Greater}
+use Rattle.std.proofs.Common.{◌≡◌, ℕ, Bool, true, false, cond, List, [], ◌∷◌, refl, sym, ◌∙◌, subst, inl, inr, Option, Some, None, Result, Ok, Err, Ordering, Less, Equal, Greater}
 use Rattle.std.specs.Prelude.{codes, IfOk}
 use Rattle.std.specs.List.{AllByRecursion}
 use Rattle.std.specs.Ordering.{eq_by_cmp}
-use Rattle.std.specs.Result.{result_ok}
 use Rattle.std.specs.Str.{bytes_eq}
 use Rattle.std.specs.FinMap.{get, insert, remove, empty, entries, entries-insert, get-remove, get-empty}
 use Rattle.std.specs.FinMap.Entries.{put, by_order}
 use Rattle.std.proofs.lemmas.Cmp.{nat_list_cmp_total}
-use Rattle.std.proofs.lemmas.Bool.{leb-true}
-use Rattle.hex.specs.Hex.{decode_of, IsBytes}
-use Rattle.hex.specs.declared.error.FromHexError.{FromHexError}
-use Rattle.hex.proofs.HexLemmas.{decode_of-ok}
-use Rattle.base_model.specs.Bytes.{AreBytes, bytes_cmp}
+use Rattle.base_model.specs.Bytes.{bytes_cmp}
 use Rattle.base_model.specs.Member.{Member}
 use Rattle.trie_model.specs.Maps.{Map, IsPair, IsMap, key_limit, value_limit, limits}
 use Rattle.trie_model.proofs.Lists.{All-member}
 use Rattle.trie_model.proofs.Entries.{member_of_get, get_of_member}
 use Rattle.text_model.specs.Lines.{is_overlong}
-use Rattle.text_model.specs.Words.{words_of, hex_word}
+use Rattle.text_model.specs.Words.{words_of}
 use Rattle.base_model.specs.Fields.{◌>>=◌}
-use Rattle.text_model.specs.LineKind.{LineKind, TooLong, Word, LongKey, LongValue}
-use Rattle.text_model.specs.ReadLine.{Batch, Line, Skip, Put, Del, is_comment, at_most, key_word, value_word, one_word, two_words, put_line, del_line, line_of_words, read_line}
+use Rattle.text_model.specs.LineKind.{LineKind, TooLong, Word}
+use Rattle.text_model.specs.ReadLine.{Batch, Line, Skip, Put, Del, is_comment, key_word, value_word, one_word, two_words, put_line, del_line, line_of_words, read_line}
 use Rattle.text_model.specs.MapOfLines.{after_read, after_lines}
 use Rattle.text_model.specs.Laws.{LinesMakeMaps}
+use Rattle.text_model.proofs.WordBytes.{AreBytesWithin, key_within, value_within}
 
 -- ---- maps by what they answer
 -- what holds of each member holds of each
@@ -64,46 +60,6 @@ kept false o v g = g
 
 removed_map : (m : Map) (k : List ℕ) → IsMap limits m → IsMap limits (remove m k)
 removed_map m k h = by_answers (remove m k) (λ q v g. answers m h q v (kept (eq_by_cmp bytes_cmp q k) (get m q) v (sym (get-remove nat_list_cmp_total m k q) ∙ g)))
-
--- ---- what words stand for
-each_byte : (bytes : List ℕ) → IsBytes bytes → AreBytes bytes
-each_byte [] h = tt
-each_byte (b ∷ bytes) h = (h 0, each_byte bytes (λ i. h (suc i)))
-
--- what an option has
-abbrev Has : (List ℕ → Type 0) → Option (List ℕ) → Type 0
-Has P None = Unit {0}
-Has P (Some x) = P x
-
-decoded_bytes : (word : List ℕ) (r : Result (List ℕ) FromHexError) → decode_of word ≡ r → Has AreBytes (result_ok r)
-decoded_bytes word (Ok bytes) h = each_byte bytes (decode_of-ok word bytes h).3
-decoded_bytes word (Err e) h = tt
-
-by_tests : (P : List ℕ → Type 0) (a b : Bool) (o : Option (List ℕ)) → P [] → Has P o → Has P (cond a (Some []) (cond b None o))
-by_tests P true b o none h = none
-by_tests P false true o none h = tt
-by_tests P false false o none h = h
-
-hex_word_bytes : (word : List ℕ) → Has AreBytes (hex_word word)
-hex_word_bytes word = by_tests AreBytes (bytes_eq word (codes "-")) (length word == 0) (result_ok (decode_of word)) tt (decoded_bytes word (decode_of word) refl)
-
--- bytes, no more than a limit
-abbrev AreBytesWithin : ℕ → List ℕ → Type 0
-AreBytesWithin limit bytes = AreBytes bytes × (length bytes ≤ limit)
-
-within : (limit : ℕ) (long : LineKind) (o : Option (List ℕ)) → Has AreBytes o → IfOk (at_most limit long o) (AreBytesWithin limit)
-within limit long None h = tt
-within limit long (Some bytes) h = go (nat_le (length bytes) limit) refl
-  where
-    go : (b : Bool) → nat_le (length bytes) limit ≡ b → IfOk (cond b (Ok bytes) (Err long)) (AreBytesWithin limit)
-    go true e = (h, leb-true (length bytes) limit e)
-    go false e = tt
-
-key_within : (word : List ℕ) → IfOk (key_word word) (AreBytesWithin key_limit)
-key_within word = within key_limit LongKey (hex_word word) (hex_word_bytes word)
-
-value_within : (word : List ℕ) → IfOk (value_word word) (AreBytesWithin value_limit)
-value_within word = within value_limit LongValue (hex_word word) (hex_word_bytes word)
 
 -- ---- what lines do
 -- what a line puts is a pair within the limits

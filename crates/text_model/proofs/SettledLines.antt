@@ -1,14 +1,14 @@
 -- The lines that the first bytes of an input settle.
-use Rattle.std.proofs.Common.{◌≡◌, ℕ, ◌+◌, ◌-◌, ◌<◌, ◌≤◌, Bool, true, false, nat_le, cond, List, [], ◌∷◌, ◌++◌, length, take, map, refl, sym, ap, ◌∙◌, inl, inr, Some, arith, append_assoc, length-append}
+use Rattle.std.proofs.Common.{◌≡◌, ℕ, ◌+◌, ◌-◌, ◌<◌, ◌≤◌, Bool, true, false, nat_le, cond, List, [], ◌∷◌, ◌++◌, length, take, map, refl, sym, ap, ◌∙◌, inl, inr, Option, Some, arith, append_assoc, length-append}
 use Rattle.std.specs.List.{slice_split, onto_first}
 use Rattle.std.specs.Str.Lines.{lines, lines_of_parts, strip_carriage_return}
 use Rattle.std.proofs.Math.Seq.{take-append-add}
 use Rattle.std.proofs.lemmas.Bool.{leb-true, leb-false, lt-leb}
 use Rattle.std.proofs.lemmas.List.{take-append-le, take_all, append-nil}
 use Rattle.text_model.specs.Lines.{is_newline, lines_of_cut, settled_lines, lines_within, AreWholeLines}
-use Rattle.text_model.specs.FirstBad.{first_bad}
-use Rattle.text_model.specs.Laws.{RefusesOverlong}
-use Rattle.text_model.proofs.LinesWithin.{IsPart, parts, MakesLines, makes_ended, makes_cut, line_and, settled_bad}
+use Rattle.text_model.specs.FirstBad.{first_told, first_bad}
+use Rattle.text_model.specs.Laws.{RefusesOverlong, TellsOverlong}
+use Rattle.text_model.proofs.LinesWithin.{IsPart, parts, MakesLines, makes_ended, makes_cut, line_and, settled_told, bad_number, first_bad-told, bad_overlong}
 
 -- ---- the front of a text that goes on
 -- the first bytes of two texts, one behind the other
@@ -26,20 +26,26 @@ take_over a xs ys = by_order (nat_le a (length xs)) refl
         let all : take a xs ≡ xs = take_all a xs (omega arith) in
         rw all (ap (λ (n : ℕ). take n (xs ++ ys)) sum ∙ take-append-add xs ys (a - length xs))
 
--- a bad line that is settled within the limit is the first bad one of the lines within it, whatever follows
-pub bad_within : (good : List ℕ → Bool) → RefusesOverlong good → (limit : ℕ) (front rest : List ℕ) (n : ℕ) → first_bad good 1 (settled_lines (take limit front)) ≡ Some n → first_bad good 1 (lines_within limit (front ++ rest)) ≡ Some n
-bad_within good refuses limit front rest n h = go (nat_le (length (front ++ rest)) limit) refl
+-- what is told of the lines that are settled within the limit is told of those within it, whatever follows
+pub told_within : {X : Type 0} (tells : ℕ → List ℕ → Option X) (long : ℕ → X) → TellsOverlong tells long → (limit : ℕ) (front rest : List ℕ) (n : ℕ) (x : X) → first_told tells n (settled_lines (take limit front)) ≡ Some x → first_told tells n (lines_within limit (front ++ rest)) ≡ Some x
+told_within tells long over limit front rest n x h = go (nat_le (length (front ++ rest)) limit) refl
   where
-    whole : length (front ++ rest) ≤ limit → first_bad good 1 (lines (front ++ rest)) ≡ Some n
+    whole : length (front ++ rest) ≤ limit → first_told tells n (lines (front ++ rest)) ≡ Some x
     whole le =
         let all : take limit front ≡ front = take_all limit front (omega (arith, length-append front rest)) in
-        settled_bad good refuses lines_of_parts makes_ended n front rest (rw all at h)
+        settled_told tells long over lines_of_parts makes_ended n x front rest (rw all at h)
 
-    go : (b : Bool) → nat_le (length (front ++ rest)) limit ≡ b → first_bad good 1 (cond b (lines (front ++ rest)) (settled_lines (take limit (front ++ rest)))) ≡ Some n
+    go : (b : Bool) → nat_le (length (front ++ rest)) limit ≡ b → first_told tells n (cond b (lines (front ++ rest)) (settled_lines (take limit (front ++ rest)))) ≡ Some x
     go true is = whole (leb-true (length (front ++ rest)) limit is)
     go false is =
-        ap (λ (text : List ℕ). first_bad good 1 (settled_lines text)) (take_over limit front rest)
-        ∙ settled_bad good refuses lines_of_cut makes_cut n (take limit front) (take (limit - length front) rest) h
+        ap (λ (text : List ℕ). first_told tells n (settled_lines text)) (take_over limit front rest)
+        ∙ settled_told tells long over lines_of_cut makes_cut n x (take limit front) (take (limit - length front) rest) h
+
+-- a bad line that is settled within the limit is the first bad one of the lines within it, whatever follows
+pub bad_within : (good : List ℕ → Bool) → RefusesOverlong good → (limit : ℕ) (front rest : List ℕ) (n : ℕ) → first_bad good 1 (settled_lines (take limit front)) ≡ Some n → first_bad good 1 (lines_within limit (front ++ rest)) ≡ Some n
+bad_within good refuses limit front rest n h =
+    first_bad-told good 1 (lines_within limit (front ++ rest))
+    ∙ told_within (bad_number good) (λ n. n) (bad_overlong good refuses) limit front rest 1 n (sym (first_bad-told good 1 (settled_lines (take limit front))) ∙ h)
 
 -- past the limit nothing that follows makes a difference
 pub past_limit : (limit : ℕ) (front rest : List ℕ) → limit < length front → lines_within limit (front ++ rest) ≡ settled_lines (take limit front)

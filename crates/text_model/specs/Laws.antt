@@ -4,10 +4,11 @@ use Rattle.std.specs.List.{AllByRecursion}
 use Rattle.std.specs.FinMap.{get}
 use Rattle.std.specs.Str.Lines.{lines}
 use Rattle.base_model.specs.Bytes.{AreBytes}
-use Rattle.trie_model.specs.Maps.{Map, IsMap, limits, root}
+use Rattle.trie_model.specs.Hashing.{hash_length}
+use Rattle.trie_model.specs.Maps.{Map, IsMap, key_limit, limits, root}
 use Rattle.text_model.specs.Lines.{is_overlong, lines_within}
 use Rattle.text_model.specs.LineKind.{LineKind}
-use Rattle.text_model.specs.ReadLine.{InputKind, Batch, Line, Put, Del, read_line, is_line}
+use Rattle.text_model.specs.ReadLine.{InputKind, Batch, Verify, Line, Put, Del, Point, read_line, is_line}
 use Rattle.text_model.specs.FirstBad.{first_bad}
 use Rattle.text_model.specs.MapOfLines.{map_of_lines}
 use Rattle.text_model.specs.Words.{hex_word, number_word}
@@ -60,6 +61,10 @@ CutLines =
 abbrev pub RefusesOverlong : (List ℕ → Bool) → Type 0
 RefusesOverlong good = (line : List ℕ) → is_overlong line ≡ true → good line ≡ false
 
+-- of a line of too many bytes always the same is told, by its number
+abbrev pub TellsOverlong : {X : Type 0} → (ℕ → List ℕ → Option X) → (ℕ → X) → Type 0
+TellsOverlong tells long = (n : ℕ) (line : List ℕ) → is_overlong line ≡ true → tells n line ≡ Some (long n)
+
 -- by a test that refuses lines of too many bytes, a bad line within the limit is the first bad line of the whole input, however long that is
 abbrev pub BadLineStays : Type 0
 BadLineStays = (good : List ℕ → Bool) → RefusesOverlong good → (limit : ℕ) (bytes : List ℕ) (n : ℕ) → first_bad good 1 (lines_within limit bytes) ≡ Some n → first_bad good 1 (lines bytes) ≡ Some n
@@ -87,3 +92,14 @@ pub record ValueLines : Type 0 where
 pub record NumbersAreDecimal : Type 0 where
   pub reads : (n : ℕ) → n < 2 ^ 64 → number_word (decimal n) ≡ Some n
   pub only : (word : List ℕ) (n : ℕ) → number_word word ≡ Some n → (n < 2 ^ 64) × (word ≡ decimal n)
+
+-- what a line says of a proof: the bytes of a root, of a key within its limit, and of the proof
+pub record IsPointLine (root key proof : List ℕ) : Type 0 where
+  pub root_bytes : AreBytes root
+  pub root_length : length root ≡ hash_length
+  pub key_bytes : AreBytes key
+  pub key_short : length key ≤ key_limit
+  pub proof_bytes : AreBytes proof
+
+abbrev pub PointLinesAreWithin : Type 0
+PointLinesAreWithin = (line root key proof : List ℕ) → read_line Verify line ≡ Ok (Point root key proof) → IsPointLine root key proof

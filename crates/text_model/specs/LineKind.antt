@@ -18,3 +18,5 @@ pub data LineKind : Type 0 where
   Number : LineKind
   -- a word that stands for the store or a view is neither
   Place : LineKind
+  -- a word that stands for a root is none
+  Root : LineKind

@@ -5,15 +5,17 @@ use Rattle.std.specs.Str.{bytes_eq}
 use Rattle.base_model.specs.Fields.{◌>>=◌}
 use Rattle.trie_model.specs.Maps.{key_limit, value_limit}
 use Rattle.text_model.specs.Lines.{is_overlong}
-use Rattle.text_model.specs.Words.{PlaceWord, words_of, hex_word, number_word, place_word}
-use Rattle.text_model.specs.LineKind.{LineKind, TooLong, Word, Count, Hex, LongKey, LongValue, Number, Place}
+use Rattle.text_model.specs.Words.{PlaceWord, RootWord, words_of, hex_word, number_word, place_word, root_word, plain_root_word}
+use Rattle.text_model.specs.LineKind.{LineKind, TooLong, Word, Count, Hex, LongKey, LongValue, Number, Place, Root as NoRoot}
 
 -- which lines an input may have
 pub data InputKind : Type 0 where
   -- `put KEY VALUE` and `del KEY`
   Batch : InputKind
-  -- these, `commit`, and the lines on views
+  -- these, `commit`, the lines on views, and `prove ROOT KEY`
   Script : InputKind
+  -- `point ROOT KEY HEX`
+  Verify : InputKind
 
 -- what a line asks for
 pub data Line : Type 0 where
@@ -37,6 +39,10 @@ pub data Line : Type 0 where
   Get : PlaceWord → List ℕ → Line
   -- the root, of the store or of a view
   Root : PlaceWord → Line
+  -- the proof of a key, in the map that a root names
+  Prove : RootWord → List ℕ → Line
+  -- whether bytes prove what every map with this root has at a key
+  Point : List ℕ → List ℕ → List ℕ → Line
 
 -- a line whose first byte is `#`
 abbrev pub is_comment : List ℕ → Bool
@@ -70,6 +76,11 @@ two_words read [] = Err Count
 two_words read (first ∷ []) = Err Count
 two_words read (first ∷ second ∷ []) = read first second
 two_words read (first ∷ second ∷ word ∷ words) = Err Count
+
+-- what follows a first word is three words
+abbrev pub three_words : (List ℕ → List ℕ → List ℕ → Result Line LineKind) → List (List ℕ) → Result Line LineKind
+three_words read [] = Err Count
+three_words read (first ∷ words) = two_words (read first) words
 
 -- ---- lines that change a map
 
@@ -107,6 +118,25 @@ get_line place key = do
   k ← key_word key
   Ok (Get p k)
 
+-- ---- lines on proofs
+
+-- a root, and a key
+abbrev pub prove_line : List ℕ → List ℕ → Result Line LineKind
+prove_line root key = do
+  r ← ok_or (root_word root) NoRoot
+  k ← key_word key
+  Ok (Prove r k)
+
+-- a root, a key and the bytes of a proof
+abbrev pub point_line : List ℕ → List ℕ → List ℕ → Result Line LineKind
+point_line root key proof = do
+  r ← ok_or (plain_root_word root) NoRoot
+  k ← key_word key
+  p ← ok_or (hex_word proof) Hex
+  Ok (Point r k p)
+
+-- ---- lines by their words
+
 -- what follows `commit`: nothing
 abbrev pub commit_words : List (List ℕ) → Result Line LineKind
 commit_words [] = Ok Commit
@@ -122,20 +152,30 @@ script_words command words =
     else if bytes_eq command (codes "state") then one_word (number_line State) words
     else if bytes_eq command (codes "get") then two_words get_line words
     else if bytes_eq command (codes "root") then one_word (place_line Root) words
+    else if bytes_eq command (codes "prove") then two_words prove_line words
     else Err Word
 
--- a line that only an input of this kind has
-abbrev pub own_words : InputKind → List ℕ → List (List ℕ) → Result Line LineKind
-own_words Batch command words = Err Word
-own_words Script command words = script_words command words
-
--- a line by its words; each input has the lines that change a map
-abbrev pub line_of_words : InputKind → List (List ℕ) → Result Line LineKind
-line_of_words kind [] = Ok Skip
-line_of_words kind (command ∷ words) =
+-- a line that changes a map, or one that is read in another way
+abbrev pub change_words : Result Line LineKind → List ℕ → List (List ℕ) → Result Line LineKind
+change_words other command words =
     if bytes_eq command (codes "put") then two_words put_line words
     else if bytes_eq command (codes "del") then one_word del_line words
-    else own_words kind command words
+    else other
+
+-- a line that tells of a proof
+abbrev pub verify_words : List ℕ → List (List ℕ) → Result Line LineKind
+verify_words command words = if bytes_eq command (codes "point") then three_words point_line words else Err Word
+
+-- a line of an input of this kind
+abbrev pub own_words : InputKind → List ℕ → List (List ℕ) → Result Line LineKind
+own_words Batch command words = change_words (Err Word) command words
+own_words Script command words = change_words (script_words command words) command words
+own_words Verify command words = verify_words command words
+
+-- a line by its words
+abbrev pub line_of_words : InputKind → List (List ℕ) → Result Line LineKind
+line_of_words kind [] = Ok Skip
+line_of_words kind (command ∷ words) = own_words kind command words
 
 -- what a line of such an input asks for
 abbrev pub read_line : InputKind → List ℕ → Result Line LineKind

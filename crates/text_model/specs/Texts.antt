@@ -44,6 +44,14 @@ abbrev pub value_text : Option (List ℕ) → List ℕ
 value_text (Some value) = codes "value " ++ word_of_bytes value ++ 10 ∷ []
 value_text None = codes "none" ++ 10 ∷ []
 
+-- the line of a proof: its bytes, of which it has some
+abbrev pub proof_text : List ℕ → List ℕ
+proof_text bytes = codes "proof " ++ encode_lower bytes ++ 10 ∷ []
+
+-- the line of a proof that is accepted: how many pairs it shows
+abbrev pub ok_text : ℕ → List ℕ
+ok_text pairs = codes "ok " ++ decimal pairs ++ 10 ∷ []
+
 abbrev pub done_text : List ℕ
 done_text = codes "mdb: done"
 
@@ -52,6 +60,13 @@ word_text place = codes "mdb: word " ++ decimal place ++ codes " is not understo
 
 abbrev pub line_text : ℕ → List ℕ
 line_text number = codes "mdb: line " ++ decimal number ++ codes " is not understood"
+
+-- the line of this number tells of a proof that is refused, and why
+abbrev pub proof_refused_text : ℕ → List ℕ → List ℕ
+proof_refused_text number cause = codes "mdb: line " ++ decimal number ++ codes " refused, " ++ cause
+
+abbrev pub not_held_text : List ℕ
+not_held_text = codes "mdb: root not held"
 
 -- the file of this number is no store's
 abbrev pub no_store_text : ℕ → List ℕ

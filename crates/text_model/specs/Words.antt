@@ -1,11 +1,12 @@
--- The words of a line, and words that stand for bytes, for a number, and for what a line of a script speaks of.
-use Rattle.std.specs.Prelude.{ℕ, ◌^◌, ◌==◌, ◌&&◌, ◌||◌, Bool, false, not, if◌then◌else◌, nat_lt, List, [], ◌∷◌, length, codes, Option, Some, None, option_map}
+-- The words of a line, and words that stand for bytes, for a number, for what a line of a script speaks of, and for a root.
+use Rattle.std.specs.Prelude.{ℕ, ◌^◌, ◌*◌, ◌==◌, ◌&&◌, ◌||◌, Bool, false, not, if◌then◌else◌, nat_lt, List, [], ◌∷◌, length, codes, Option, Some, None, option_map}
 use Rattle.std.specs.Char.{is_ascii_digit}
 use Rattle.std.specs.List.{slice_split, filter}
 use Rattle.std.specs.Str.{bytes_eq, all_ascii_digits}
 use Rattle.std.specs.Str.Parse.{digits_value}
 use Rattle.std.specs.Result.{result_ok}
 use Rattle.hex.specs.Hex.{decode_of}
+use Rattle.trie_model.specs.Hashing.{hash_length, zero_id}
 
 -- a space or a tab
 abbrev pub is_blank : ℕ → Bool
@@ -42,3 +43,41 @@ pub data PlaceWord : Type 0 where
 -- the place of a word: `db`, or the number of a view
 abbrev pub place_word : List ℕ → Option PlaceWord
 place_word word = if bytes_eq word (codes "db") then Some Db else option_map View (number_word word)
+
+-- ---- roots
+
+-- what a word says of a map: its root, or where a store has it
+pub data RootWord : Type 0 where
+  -- the map with this root
+  Id : List ℕ → RootWord
+  -- the map of the store
+  Now : RootWord
+  -- the empty map
+  Empty : RootWord
+  -- the map of the store so many commits back
+  Back : ℕ → RootWord
+
+-- the ID of a word: two hexadecimal digits in either case for each of its bytes
+abbrev pub id_word : List ℕ → Option (List ℕ)
+id_word word = if length word == 2 * hash_length then result_ok (decode_of word) else None
+
+-- how many commits back, by a number behind `~`
+abbrev pub back_word : List ℕ → Option RootWord
+back_word [] = None
+back_word (b ∷ number) = if b == 126 then option_map Back (number_word number) else None
+
+-- an ID, or how many commits back
+abbrev pub id_or_back : List ℕ → Option (List ℕ) → Option RootWord
+id_or_back word (Some id) = Some (Id id)
+id_or_back word None = back_word word
+
+-- what a word says of a map that a store has
+abbrev pub root_word : List ℕ → Option RootWord
+root_word word =
+    if bytes_eq word (codes "now") then Some Now
+    else if bytes_eq word (codes "empty") then Some Empty
+    else id_or_back word (id_word word)
+
+-- the root of a word where there is no store: an ID, or `empty`
+abbrev pub plain_root_word : List ℕ → Option (List ℕ)
+plain_root_word word = if bytes_eq word (codes "empty") then Some zero_id else id_word word

@@ -1,8 +1,8 @@
--- Worked lines of an input that makes a map, and of a script. Bytes are in hexadecimal: 09 is a tab, 0d a carriage return.
+-- Worked lines of an input that makes a map, of a script, and of an input of proofs. Bytes are in hexadecimal: 09 is a tab, 0d a carriage return.
 use Rattle.std.specs.Prelude.{◌≡◌, ℕ, List, [], ◌∷◌, ◌++◌, codes, replicate, Result, Ok, Err}
-use Rattle.text_model.specs.LineKind.{LineKind, Word, Count, Hex, LongKey, Number, Place}
-use Rattle.text_model.specs.ReadLine.{Batch, Script, Line, Skip, Put, Del, Commit, View, Take, Close, State, Get, Root, read_line}
-use Rattle.text_model.specs.Words.{Db, View as OfView}
+use Rattle.text_model.specs.LineKind.{LineKind, Word, Count, Hex, LongKey, Number, Place, Root as NoRoot}
+use Rattle.text_model.specs.ReadLine.{Batch, Script, Verify, Line, Skip, Put, Del, Commit, View, Take, Close, State, Get, Root, Prove, Point, read_line}
+use Rattle.text_model.specs.Words.{Db, View as OfView, Id, Now, Empty, Back}
 
 -- a line of an input that makes a map
 abbrev pub read : List ℕ → Result Line LineKind
@@ -11,6 +11,10 @@ read = read_line Batch
 -- a line of a script
 abbrev pub script : List ℕ → Result Line LineKind
 script = read_line Script
+
+-- a line of an input of proofs
+abbrev pub proof : List ℕ → Result Line LineKind
+proof = read_line Verify
 
 -- lines that are understood
 abbrev pub GoodLines : Type 0
@@ -68,6 +72,12 @@ ScriptLines =
     × (script (codes "get 3 6B") ≡ Ok (Get (OfView 3) (0x6b ∷ [])))
     × (script (codes "root db") ≡ Ok (Root Db))
     × (script (codes "root 10") ≡ Ok (Root (OfView 10)))
+    × (script (codes "prove now 6b") ≡ Ok (Prove Now (0x6b ∷ [])))
+    × (script (codes "prove empty -") ≡ Ok (Prove Empty []))
+    × (script (codes "prove ~0 6b") ≡ Ok (Prove (Back 0) (0x6b ∷ [])))
+    × (script (codes "prove ~64 6b") ≡ Ok (Prove (Back 64) (0x6b ∷ [])))
+    -- 64 digits in either case
+    × (script (codes "prove " ++ replicate 62 0x30 ++ codes "aF 6b") ≡ Ok (Prove (Id (replicate 31 0x00 ++ 0xaf ∷ [])) (0x6b ∷ [])))
     -- the lines of an input that makes a map are lines of a script
     × (script (codes "put 6b 76") ≡ Ok (Put (0x6b ∷ []) (0x76 ∷ [])))
     × (script (codes "del 6b") ≡ Ok (Del (0x6b ∷ [])))
@@ -105,3 +115,34 @@ BadScriptLines =
     × (script (codes "get x 6") ≡ Err Place)
     × (script (codes "get 1 6") ≡ Err Hex)
     × (script (codes "get 1 " ++ replicate 514 0x30) ≡ Err LongKey)
+    -- a root has 64 digits, and a number stands behind `~`
+    × (script (codes "prove " ++ replicate 63 0x30 ++ codes " 6b") ≡ Err NoRoot)
+    × (script (codes "prove " ++ replicate 63 0x30 ++ codes "g 6b") ≡ Err NoRoot)
+    × (script (codes "prove " ++ replicate 66 0x30 ++ codes " 6b") ≡ Err NoRoot)
+    × (script (codes "prove - 6b") ≡ Err NoRoot)
+    × (script (codes "prove Now 6b") ≡ Err NoRoot)
+    × (script (codes "prove ~ 6b") ≡ Err NoRoot)
+    × (script (codes "prove ~01 6b") ≡ Err NoRoot)
+    × (script (codes "prove db 6") ≡ Err NoRoot)
+    × (script (codes "prove now 6") ≡ Err Hex)
+    × (script (codes "prove now") ≡ Err Count)
+    -- a script checks no proofs
+    × (script (codes "point empty 6b 01") ≡ Err Word)
+
+-- lines of an input of proofs
+abbrev pub ProofLines : Type 0
+ProofLines =
+    (proof (codes "point " ++ replicate 64 0x30 ++ codes " 6b 0104") ≡ Ok (Point (replicate 32 0x00) (0x6b ∷ []) (0x01 ∷ 0x04 ∷ [])))
+    × (proof (codes " point\tempty - - ") ≡ Ok (Point (replicate 32 0x00) [] []))
+    × (proof (codes "# point") ≡ Ok Skip)
+    × (proof [] ≡ Ok Skip)
+    -- no store is there whose map `now` or `~0` could name
+    × (proof (codes "point now 6b 01") ≡ Err NoRoot)
+    × (proof (codes "point ~0 6b 01") ≡ Err NoRoot)
+    × (proof (codes "point empty 6 0") ≡ Err Hex)
+    × (proof (codes "point empty 6b 0") ≡ Err Hex)
+    × (proof (codes "point empty " ++ replicate 514 0x30 ++ codes " 01") ≡ Err LongKey)
+    × (proof (codes "point empty 6b") ≡ Err Count)
+    × (proof (codes "point empty 6b 01 01") ≡ Err Count)
+    × (proof (codes "put 6b 76") ≡ Err Word)
+    × (proof (codes "prove now 6b") ≡ Err Word)

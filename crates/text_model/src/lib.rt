@@ -6,8 +6,8 @@
 //! worked values. Nothing here fails, and nothing here takes memory.
 #![tactic(auto)]
 
-ghost use Rattle.text_model.specs.Laws.{LinesMakeMaps, LastLineCounts, FirstBadLine, CutLines, BadLineStays, OverlongLinesAreBad, RootLines, NumberedLines, ValueLines, NumbersAreDecimal};
-ghost use Rattle.text_model.specs.WorkedLines.{GoodLines, BadLines, ScriptLines, BadScriptLines};
+ghost use Rattle.text_model.specs.Laws.{LinesMakeMaps, LastLineCounts, FirstBadLine, CutLines, BadLineStays, OverlongLinesAreBad, RootLines, NumberedLines, ValueLines, NumbersAreDecimal, PointLinesAreWithin};
+ghost use Rattle.text_model.specs.WorkedLines.{GoodLines, BadLines, ScriptLines, BadScriptLines, ProofLines};
 ghost use Rattle.text_model.specs.WorkedTexts.{WorkedTexts};
 
 /// What lines make is a map of byte strings within the limits of keys and values.
@@ -60,6 +60,11 @@ pub fn numbers_are_decimal()
     ensures { NumbersAreDecimal }
 {}
 
+/// What a line says of a proof: the bytes of a root, of a key within its limit, and of the proof.
+pub fn point_lines_are_within()
+    ensures { PointLinesAreWithin }
+{}
+
 /// Lines that are understood.
 pub fn good_lines()
     ensures { GoodLines }
@@ -78,6 +83,11 @@ pub fn script_lines()
 /// Lines of a script that are not understood, and their faults.
 pub fn bad_script_lines()
     ensures { BadScriptLines }
+{}
+
+/// Lines of an input of proofs, and the faults of some.
+pub fn proof_lines()
+    ensures { ProofLines }
 {}
 
 /// Texts that come with a store and with views.

@@ -6,8 +6,13 @@ use std::test::Fail;
 #[derive(Clone, Copy, Debug)]
 enum Asked<'a> {
     Nothing,
-    Value { key: &'a [u8], value: &'a [u8] },
-    NoValue { key: &'a [u8] },
+    Value {
+        key: &'a [u8],
+        value: &'a [u8],
+    },
+    NoValue {
+        key: &'a [u8],
+    },
     Commit,
     View(PlaceWord),
     Take(u64),
@@ -15,6 +20,12 @@ enum Asked<'a> {
     State(u64),
     Get(PlaceWord, &'a [u8]),
     Root(PlaceWord),
+    Prove(RootWord, &'a [u8]),
+    Point {
+        root: Id,
+        key: &'a [u8],
+        proof: &'a [u8],
+    },
 }
 
 fn assert_reads(
@@ -46,6 +57,24 @@ fn assert_reads(
         (Ok(Line::Get { place, key }), Ok(Asked::Get(p, k))) => {
             assert_eq!(rt; place, p, "place of {line:?}");
             assert_eq!(rt; key.as_slice(), k, "key of {line:?}");
+        }
+        (Ok(Line::Prove { root, key }), Ok(Asked::Prove(r, k))) => {
+            assert_eq!(rt; root, r, "root of {line:?}");
+            assert_eq!(rt; key.as_slice(), k, "key of {line:?}");
+        }
+        (
+            Ok(Line::Point { root, key, proof }),
+            Ok(
+                Asked::Point {
+                    root: r,
+                    key: k,
+                    proof: p,
+                },
+            ),
+        ) => {
+            assert_eq!(rt; root, r, "root of {line:?}");
+            assert_eq!(rt; key.as_slice(), k, "key of {line:?}");
+            assert_eq!(rt; proof.as_slice(), p, "proof of {line:?}");
         }
         (Err(fault), Err(kind)) => {
             assert_eq!(rt; fault, LineFault { line: 7, kind }, "of {line:?}");
@@ -166,7 +195,7 @@ fn a_line_of_a_script_has_its_first_fault(rt: HostRuntime) {
         (b"views db", LineKind::Word),
         (b"db", LineKind::Word),
         // Lines that no script has today.
-        (b"prove now 6b", LineKind::Word),
+        (b"changes now now * * 1 1", LineKind::Word),
         (b"range now * * 1 1", LineKind::Word),
         (b"compact", LineKind::Word),
         (b"foo zz zz", LineKind::Word),
@@ -212,6 +241,113 @@ fn a_line_of_a_script_has_its_first_fault(rt: HostRuntime) {
     ];
     for (line, kind) in rows {
         assert_reads(&rt, alloc, InputKind::Script, line, Err(kind));
+    }
+}
+
+// 64 digits, and the bytes that they stand for.
+const DIGITS: [u8; 64] = *b"00112233445566778899AAbbCCddEEff00112233445566778899aabbccddeeff";
+
+const ROOT: Id = [
+    0x00, 0x11, 0x22, 0x33, 0x44, 0x55, 0x66, 0x77, 0x88, 0x99, 0xaa, 0xbb, 0xcc, 0xdd, 0xee, 0xff,
+    0x00, 0x11, 0x22, 0x33, 0x44, 0x55, 0x66, 0x77, 0x88, 0x99, 0xaa, 0xbb, 0xcc, 0xdd, 0xee, 0xff,
+];
+
+#[test]
+fn a_root_is_an_id_or_the_name_of_a_map_that_is_there(rt: HostRuntime) -> Result<(), Fail> {
+    let alloc = rt.alloc();
+    let proved = Ok(Asked::Prove(RootWord::Id(ROOT), b"k"));
+    let point = Ok(Asked::Point {
+        root: ROOT,
+        key: b"k",
+        proof: b"\x01\x04",
+    });
+    // What stands before the digits and behind them, and how many there are.
+    let rows: [(InputKind, &[u8], usize, &[u8], Result<Asked, LineKind>); 9] = [
+        (InputKind::Script, b"prove ", 64, b" 6b", proved),
+        (
+            InputKind::Script,
+            b"prove ",
+            63,
+            b" 6b",
+            Err(LineKind::Root),
+        ),
+        (
+            InputKind::Script,
+            b"prove ",
+            63,
+            b"g 6b",
+            Err(LineKind::Root),
+        ),
+        (
+            InputKind::Script,
+            b"prove ",
+            64,
+            b"00 6b",
+            Err(LineKind::Root),
+        ),
+        (InputKind::Script, b"prove ", 64, b" 6", Err(LineKind::Hex)),
+        (InputKind::Verify, b"point ", 64, b" 6B 0104", point),
+        (
+            InputKind::Verify,
+            b"point ",
+            62,
+            b" 6b 0104",
+            Err(LineKind::Root),
+        ),
+        (
+            InputKind::Verify,
+            b"point ",
+            64,
+            b" 6b 010",
+            Err(LineKind::Hex),
+        ),
+        (InputKind::Batch, b"prove ", 64, b" 6b", Err(LineKind::Word)),
+    ];
+    for (kind, before, count, after, want) in rows {
+        let mut line = Vec::from_slice(alloc, before)?;
+        line.extend_from_slice(&DIGITS[..count])?;
+        line.extend_from_slice(after)?;
+        assert_reads(&rt, alloc, kind, &line, want);
+    }
+    Ok(())
+}
+
+#[test]
+fn an_input_of_proofs_has_no_lines_but_points(rt: HostRuntime) {
+    let alloc = rt.alloc();
+    let empty = Ok(Asked::Point {
+        root: [0; 32],
+        key: b"",
+        proof: b"\x01",
+    });
+    let rows: [(&[u8], Result<Asked, LineKind>); 12] = [
+        (b" point\tempty - 01 ", empty),
+        (b"# point", Ok(Asked::Nothing)),
+        (b"", Ok(Asked::Nothing)),
+        (b"point now 6b 01", Err(LineKind::Root)),
+        (b"point ~0 6b 01", Err(LineKind::Root)),
+        (b"point Empty 6 0", Err(LineKind::Root)),
+        (b"point empty 6 0", Err(LineKind::Hex)),
+        (b"point empty 6b 0", Err(LineKind::Hex)),
+        (b"point empty 6b", Err(LineKind::Count)),
+        (b"point empty 6b 01 01", Err(LineKind::Count)),
+        (b"put 6b 76", Err(LineKind::Word)),
+        (b"commit", Err(LineKind::Word)),
+    ];
+    for (line, want) in rows {
+        assert_reads(&rt, alloc, InputKind::Verify, line, want);
+    }
+    let named: [(&[u8], Result<Asked, LineKind>); 7] = [
+        (b"prove now 6b", Ok(Asked::Prove(RootWord::Now, b"k"))),
+        (b"prove empty 6b", Ok(Asked::Prove(RootWord::Empty, b"k"))),
+        (b"prove ~0 -", Ok(Asked::Prove(RootWord::Back(0), b""))),
+        (b"prove ~64 6b", Ok(Asked::Prove(RootWord::Back(64), b"k"))),
+        (b"prove ~ 6b", Err(LineKind::Root)),
+        (b"prove ~01 6b", Err(LineKind::Root)),
+        (b"point empty - 01", Err(LineKind::Word)),
+    ];
+    for (line, want) in named {
+        assert_reads(&rt, alloc, InputKind::Script, line, want);
     }
 }
 

@@ -1,0 +1,113 @@
+-- What the lines of `verify` come to, and what they tell of maps.
+use Rattle.std.proofs.Common.{◌≡◌, ℕ, Bool, true, false, nat_le, cond, List, [], ◌∷◌, ◌++◌, length, take, refl, sym, ap, ◌∙◌, Option, Some, None, Result, Ok, Err, arith, length-append}
+use Rattle.std.specs.Prelude.{is_ok}
+use Rattle.std.specs.List.{AllByRecursion}
+use Rattle.std.proofs.lemmas.Bool.{leb-true, leb-false, lt-leb}
+use Rattle.std.proofs.lemmas.List.{take_all}
+use Rattle.trie_model.specs.Bits.{IsWidth}
+use Rattle.trie_model.specs.Maps.{limits}
+use Rattle.text_model.specs.FirstBad.{first_told}
+use Rattle.text_model.specs.Lines.{input_limit, settled_lines, lines_within}
+use Rattle.text_model.specs.Texts.{Input}
+use Rattle.text_model.specs.Laws.{TellsOverlong}
+use Rattle.text_model.proofs.PointLines.{point_lines_are_within}
+use Rattle.text_model.proofs.SettledLines.{told_within, past_limit, whole_lines}
+use Rattle.proof_model.specs.Paths.{ProofNode, IsProofNode}
+use Rattle.proof_model.specs.Proofs.{PointProof}
+use Rattle.proof_model.specs.Checked.{Cause, unless_refused, checked, point_checked}
+use Rattle.proof_model.specs.Refusals.{Refusal, point_refusal}
+use Rattle.proof_model.specs.Laws.{ReadPointsAreSpelled}
+use Rattle.proof_model.specs.Sound.{AcceptedPointsAreTrue}
+use Rattle.proof_model.specs.Wire.{WireFault, IsPathNode, point_of}
+use Rattle.run_model.specs.End.{End, BadLine, Limit}
+use Rattle.run_model.specs.Laws.{DecidedVerifyStays, UndecidedVerifyFinishes, PassedLinesAreTrue}
+use Rattle.run_model.specs.Verify.{proof_verdict, read_verdict, verdict, line_end, passed, end_decided, verify_outcome, IsTrueLine}
+
+-- ---- what is decided
+
+-- a line of too many bytes is not understood
+pub line_over : (w : ℕ) → TellsOverlong (line_end w) BadLine
+line_over w n line h = rw h refl
+
+-- how lines end that are settled within the limit
+abbrev settled_end : ℕ → List ℕ → Option End
+settled_end w front = first_told (line_end w) 1 (settled_lines (take input_limit front))
+
+pub decided_verify_stays : DecidedVerifyStays
+decided_verify_stays w front rest end = go (settled_end w front) (nat_le (length front) input_limit) refl refl
+  where
+    go : (told : Option End) (b : Bool) → settled_end w front ≡ told → nat_le (length front) input_limit ≡ b → end_decided told b ≡ Some end → (verify_outcome w (front ++ rest)).end ≡ end
+    go (Some e) b told is h =
+        let same : e ≡ end = cc h in
+        let stays = told_within (line_end w) BadLine (line_over w) input_limit front rest 1 e told in
+        rw stays same
+    go None true told is h = let no : ⊥ = cc h in absurd no
+    go None false told is h =
+        let same : Limit Input ≡ end = cc h in
+        let lt = leb-false (length front) input_limit is in
+        let none : first_told (line_end w) 1 (lines_within input_limit (front ++ rest)) ≡ None = ap (first_told (line_end w) 1) (past_limit input_limit front rest lt) ∙ told in
+        let over : nat_le (length (front ++ rest)) input_limit ≡ false = lt-leb (length (front ++ rest)) input_limit (omega (arith, length-append front rest)) in
+        rw (none, over) same
+
+-- where nothing is decided every line passes and the bytes are within the limit
+none_decided : (told : Option End) (b : Bool) → end_decided told b ≡ None → (told ≡ None) × (b ≡ true)
+none_decided (Some e) b h = let no : ⊥ = cc h in absurd no
+none_decided None true h = (refl, refl)
+none_decided None false h = let no : ⊥ = cc h in absurd no
+
+pub undecided_verify_finishes : UndecidedVerifyFinishes
+undecided_verify_finishes w front h whole =
+    let none = none_decided (settled_end w front) (nat_le (length front) input_limit) h in
+    let all : take input_limit front ≡ front = take_all input_limit front (leb-true (length front) input_limit none.1) in
+    let rows : lines_within input_limit front ≡ settled_lines (take input_limit front) = rw none.1 (whole_lines front whole ∙ ap settled_lines (sym all)) in
+    let good : first_told (line_end w) 1 (lines_within input_limit front) ≡ None = ap (first_told (line_end w) 1) rows ∙ none.0 in
+    rw (good, none.1) refl
+
+-- ---- what is true
+
+-- what was checked was read and is not refused
+accepted : {A : Type 0} (refuse : A → Option Refusal) (read : Result A WireFault) (p : A) → checked refuse read ≡ Ok p → (read ≡ Ok p) × (refuse p ≡ None)
+accepted refuse (Err why) p h = let no : ⊥ = cc h in absurd no
+accepted refuse (Ok q) p h = let is = go (refuse q) h in (ap Ok is.0, ap refuse (sym is.0) ∙ is.1)
+  where
+    go : (o : Option Refusal) → unless_refused q o ≡ Ok p → (q ≡ p) × (o ≡ None)
+    go None h = (cc h, refl)
+    go (Some why) h = let no : ⊥ = cc h in absurd no
+
+accepted_point : (w : ℕ) (want key bytes : List ℕ) (p : PointProof) → point_checked limits w want key bytes ≡ Ok p → (point_of limits w bytes ≡ Ok p) × (point_refusal w key want p ≡ None)
+unfolding point_checked
+accepted_point w want key bytes p h = accepted (point_refusal w key want) (point_of limits w bytes) p h
+
+nodes_of_path : (w : ℕ) (ns : List ProofNode) → AllByRecursion (IsPathNode limits w) ns → AllByRecursion (IsProofNode w) ns
+nodes_of_path w [] h = tt
+nodes_of_path w (n ∷ ns) h = (h.0.node, nodes_of_path w ns h.1)
+
+-- a proof that passes
+passes_with : (w : ℕ) (want key bytes : List ℕ) (r : Result PointProof Cause) → point_checked limits w want key bytes ≡ r → is_ok (proof_verdict r) ≡ true → (p : PointProof) × (point_checked limits w want key bytes ≡ Ok p)
+passes_with w want key bytes (Ok p) is ok = (p, is)
+passes_with w want key bytes (Err why) is ok = let no : ⊥ = cc ok in absurd no
+
+module _ (sound : AcceptedPointsAreTrue) (spelled : ReadPointsAreSpelled) (w : ℕ) (ww : IsWidth w) where
+  true_line : (line : List ℕ) → is_ok (verdict w line) ≡ true → IsTrueLine w line
+  true_line line ok want key bytes read =
+      let within = point_lines_are_within line want key bytes read in
+      let passes : is_ok (proof_verdict (point_checked limits w want key bytes)) ≡ true = sym (ap (λ r. is_ok (read_verdict w r)) read) ∙ ok in
+      let p = passes_with w want key bytes (point_checked limits w want key bytes) refl passes in
+      let a = accepted_point w want key bytes p.0 p.1 in
+      let nodes = nodes_of_path w p.0.path (spelled limits w bytes p.0 within.proof_bytes a.0).0.path.nodes in
+      record {
+        proof = p.0;
+        accepted = p.1;
+        is_true = λ m is_map e. sound limits w key p.0 m ww within.key_bytes within.key_short nodes is_map (ap (λ r. point_refusal w key r p.0) e ∙ a.1);
+      }
+
+  pub true_lines : (lines : List (List ℕ)) → AllByRecursion (IsTrueLine w) (passed w lines)
+  true_lines [] = tt
+  true_lines (line ∷ lines) = go (is_ok (verdict w line)) refl (true_lines lines)
+    where
+      go : (b : Bool) → is_ok (verdict w line) ≡ b → AllByRecursion (IsTrueLine w) (passed w lines) → AllByRecursion (IsTrueLine w) (cond b (line ∷ passed w lines) [])
+      go true ok later = (true_line line ok, later)
+      go false bad later = tt
+
+pub passed_lines_are_true : AcceptedPointsAreTrue → ReadPointsAreSpelled → PassedLinesAreTrue
+passed_lines_are_true sound spelled w lines ww = true_lines sound spelled w ww lines

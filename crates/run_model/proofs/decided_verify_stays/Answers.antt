@@ -1,0 +1,5 @@
+use Rattle.run_model.proofs.Verifying.{decided_verify_stays}
+use Rattle.run_model.proofs.decided_verify_stays.Goals as goal
+
+pub returns : goal.returns
+returns c = decided_verify_stays

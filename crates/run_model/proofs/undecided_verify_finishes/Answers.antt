@@ -1,0 +1,5 @@
+use Rattle.run_model.proofs.Verifying.{undecided_verify_finishes}
+use Rattle.run_model.proofs.undecided_verify_finishes.Goals as goal
+
+pub returns : goal.returns
+returns c = undecided_verify_finishes
