@@ -29,7 +29,7 @@ kept_same s m files now same k = subst (λ (f : Files). Keeps s m f) (sym same) 
 
 -- and so are those whose first two are the same
 pub kept_as_read : (s : DbState) (m : Map) (files now : Files) → ((file : ℕ) → file ≤ 1 → now file ≡ files file) → Keeps s m files → Keeps s m now
-kept_as_read s m files now same k = record { values = keeps_as_read s.values m files now same k.values; digests = k.digests; roots = k.roots }
+kept_as_read s m files now same k = record { values = keeps_as_read s.values m files now same k.values; digests = k.digests; short = k.short; roots = k.roots }
 
 -- the map that was found is the one for which the files stood
 pub opened_keeps : (width : ℕ) (was is : Files) (s : DbState) (m : Map) → Opened width was is s → Stands limits was m → Keeps s m is

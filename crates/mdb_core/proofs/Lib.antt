@@ -9,3 +9,7 @@ pub mod RootsByDigests
 pub mod StoresKept
 pub mod Refusals
 pub mod BatchLookups
+pub mod NamedMaps
+pub mod ShortKeys
+pub mod NextDigests
+pub mod EmptyMaps

@@ -15,7 +15,9 @@ use Rattle.trie_model.proofs.Entries.{tied_equal, IsAscending, entries-IsAscendi
 use Rattle.trie_model.proofs.EntriesRemoved.{other_key, entries-remove}
 use Rattle.trie_model.specs.Hashing.{value_digest}
 use Rattle.trie_model.specs.Maps.{Map, digest_entry, map_digests}
+use Rattle.value_store.specs.Index.{IsShort}
 use Rattle.mdb_core.specs.Stores.{AreDigests}
+use Rattle.mdb_core.proofs.ShortKeys.{short-put}
 
 -- the bytes of a key
 abbrev pub key_items : SmallVec ℕ → List ℕ
@@ -67,9 +69,9 @@ map_digests-remove m k =
     ∙ digests-remove_entry (entries m) k
 
 -- digests of a map stay so where one of a value is put
-pub put-AreDigests : (ds : List (List ℕ × List ℕ)) (k v : List ℕ) → AreDigests ds → AreDigests (put bytes_cmp k (value_digest v) ds)
-put-AreDigests ds k v (m, e) = (insert m k v, ap (put bytes_cmp k (value_digest v)) e ∙ sym (map_digests-insert m k v))
+pub put-AreDigests : (ds : List (List ℕ × List ℕ)) (k v : List ℕ) → IsShort k → AreDigests ds → AreDigests (put bytes_cmp k (value_digest v) ds)
+put-AreDigests ds k v fits some = (insert some.0 k v, ap (put bytes_cmp k (value_digest v)) some.1 ∙ sym (map_digests-insert some.0 k v), short-put ds k (value_digest v) some.2 fits)
 
 -- those of the empty map are none
 pub none-AreDigests : AreDigests []
-none-AreDigests = (empty, sym (ap (map digest_entry) (nil_from_length (entries empty) (sym (len-entries empty) ∙ len-empty bytes_cmp (List ℕ)))))
+none-AreDigests = (empty, sym (ap (map digest_entry) (nil_from_length (entries empty) (sym (len-entries empty) ∙ len-empty bytes_cmp (List ℕ)))), tt)

@@ -8,6 +8,7 @@ use Rattle.base_model.specs.Bytes.{bytes_cmp}
 use Rattle.trie_model.specs.Hashing.{value_digest}
 use Rattle.trie_model.specs.Maps.{Map, digest_entry, map_digests}
 use Rattle.trie_model.proofs.Entries.{IsAscending, entries-IsAscending}
+use Rattle.value_store.specs.Index.{IsShort}
 use Rattle.value_store.specs.PairSinks.{TakesAll}
 use Rattle.mdb_core.specs.Stores.{AreDigests}
 use Rattle.mdb_core.proofs.LastPuts.{put_next}
@@ -39,6 +40,6 @@ pub taken_digests : (m : Map) (new : List Entry) → TakesAll puts_digest [] (en
 taken_digests m new taken = along (entries m) [] new (map_digests m) (digests-IsAscending (entries m) (entries-IsAscending m)) refl taken
 
 -- whatever pairs are taken, the digests stay those of a map
-pub some_digests : (es ds new : List Entry) → AreDigests ds → TakesAll puts_digest ds es new → AreDigests new
-some_digests [] ds new some taken = subst AreDigests (sym taken) some
-some_digests (e ∷ es) ds new some taken = some_digests es taken.0 new (subst AreDigests (sym taken.1) (put-AreDigests ds e.0 e.1 some)) taken.2
+pub some_digests : (es ds new : List Entry) → AllByRecursion (λ (e : Entry). IsShort e.0) es → AreDigests ds → TakesAll puts_digest ds es new → AreDigests new
+some_digests [] ds new short some taken = subst AreDigests (sym taken) some
+some_digests (e ∷ es) ds new short some taken = some_digests es taken.0 new short.1 (subst AreDigests (sym taken.1) (put-AreDigests ds e.0 e.1 short.0 some)) taken.2

@@ -2,5 +2,12 @@ pub mod Stores
 pub mod Opens
 pub mod Applies
 pub mod Places
+pub mod Found
 pub mod Proposals
 pub mod Faults
+pub mod MapKeys
+pub mod Tidy
+pub mod Proposed
+pub mod Spots
+pub mod Reads
+pub mod Lending

@@ -1,10 +1,12 @@
 -- What a store knows of its files and of its views.
-use Rattle.std.specs.Prelude.{◌≡◌, ℕ, zero, suc, ◌≤◌, Bool, List, [], length, Some, slice_index_or}
+use Rattle.std.specs.Prelude.{◌≡◌, ℕ, zero, suc, ◌≤◌, Bool, List, [], length, map, Option, Some, IfSome, slice_index_or}
 use Rattle.disk_model.specs.Files.{Files}
 use Rattle.trie_model.specs.Maps.{Map, map_digests, root}
+use Rattle.trie_model.specs.Table.{Row, table}
 use Rattle.view_model.specs.Forest.{Forest, Live, state, payload}
 use Rattle.view_model.specs.Maps.{changes_of, view_map}
 use Rattle.view_model.specs.Standing.{IsForest}
+use Rattle.node_table.specs.Pairs.{AreShort}
 use Rattle.mdb_journal.specs.Journal.{payload_limit}
 use Rattle.value_store.specs.Values.{ValueState, broken as broken_values, Keeps as ValuesKeep}
 
@@ -36,20 +38,26 @@ pub record HasRoots (s : DbState) (m : Map) : Type 0 where
   pub map : s.root ≡ root s.width m
   pub views : (n : ℕ) → state s.forest n ≡ Some Live → root_at s.roots n ≡ root s.width (view_map s.forest m n)
 
--- the digests of some map
-abbrev pub AreDigests : List (List ℕ × List ℕ) → Type 0
-AreDigests digests = (m : Map) × (digests ≡ map_digests m)
+abbrev pub keys_of : List (List ℕ × List ℕ) → List (List ℕ)
+keys_of digests = map (λ (e : List ℕ × List ℕ). e.0) digests
 
--- what holds of every store: it has the digests of a map and its roots, and each live view may be written as one record
-pub record IsStore (s : DbState) : Type 0 where
+-- the digests of some map, with keys within the limit
+abbrev pub AreDigests : List (List ℕ × List ℕ) → Type 0
+AreDigests digests = (m : Map) × (digests ≡ map_digests m) × AreShort (keys_of digests)
+
+-- what holds of every store: it has the digests of a map and its roots, each live view may be written as one record, and
+-- the nodes, where it has some, are those of the map
+pub record IsStore (s : DbState) (nodes : Option (List Row)) : Type 0 where
   pub digests : AreDigests s.digests
   pub roots : (m : Map) → s.digests ≡ map_digests m → HasRoots s m
   pub forest : IsForest s.forest
   pub counted : length s.roots ≡ length s.forest.views
   pub fits : (n : ℕ) → state s.forest n ≡ Some Live → payload (changes_of s.forest n) ≤ payload_limit
+  pub nodes_are : IfSome nodes (λ rows. (m : Map) → s.digests ≡ map_digests m → rows ≡ table s.width m)
 
 -- the files are those of the store, which stands for this map
 pub record Keeps (s : DbState) (m : Map) (files : Files) : Type 0 where
   pub values : ValuesKeep s.values m files
   pub digests : s.digests ≡ map_digests m
+  pub short : AreShort (keys_of s.digests)
   pub roots : HasRoots s m

@@ -11,7 +11,8 @@ ghost use Rattle.mdb_journal.specs.Moves.{AreSynced, OthersStay};
 ghost use Rattle.value_store.specs.Writes.{StandEither, MayAppend};
 ghost use Rattle.view_model.specs.Forest.{next_number};
 ghost use Rattle.view_model.specs.Calls.{directed, number_limit};
-ghost use Rattle.mdb_core.specs.Stores.{Keeps, broken, is_failed};
+ghost use Rattle.node_table.specs.Pairs.{AreShort};
+ghost use Rattle.mdb_core.specs.Stores.{Keeps, broken, is_failed, keys_of};
 ghost use Rattle.mdb_core.specs.Applies.{Applies, ApplyFails, MayNumber};
 
 use crate::fault::told;
@@ -81,6 +82,7 @@ impl Db {
                 let Next { digests, root } = next;
                 self.digests = digests;
                 self.root = root;
+                self.nodes = None;
                 let id = self.views.direct();
                 self.roots.push_reserved(root);
                 Ok((id, root))
@@ -101,6 +103,7 @@ impl Db {
         ensures fault { IfErr result (ApplyFails self.now batch.now) }
         ensures not_disk { IsErrOf result DbFault.Disk → ⊥ }
         ensures digests { (m : Map) → self.now.digests ≡ map_digests m → IfOk result (λ next. next.digests ≡ map_digests (after_batch m batch.now)) }
+        ensures short { IfOk result (λ next. AreShort (keys_of next.digests)) }
         ensures root { IfOk result (λ next. (m : Map) → next.digests ≡ map_digests m → next.root ≡ root self.now.width m) }
         ensures cost { (m : Map) → self.now.digests ≡ map_digests m → OnOk result (steps.new ≡ steps.old + length (strings self.now.width (map_items (after_batch m batch.now)))) }
     {
@@ -140,6 +143,7 @@ impl Db {
         steps: &mut Steps<L>,
     ) -> Result<Next, NoMemory>
         ensures digests { (m : Map) → self.now.digests ≡ map_digests m → IfOk result (λ next. next.digests ≡ map_digests (after_batch m batch.now)) }
+        ensures short { IfOk result (λ next. AreShort (keys_of next.digests)) }
         ensures root { IfOk result (λ next. (m : Map) → next.digests ≡ map_digests m → next.root ≡ root self.now.width m) }
         ensures cost { (m : Map) → self.now.digests ≡ map_digests m → OnOk result (steps.new ≡ steps.old + length (strings self.now.width (map_items (after_batch m batch.now)))) }
     {

@@ -11,7 +11,8 @@ ghost use Rattle.view_model.specs.Calls.{committed};
 ghost use Rattle.view_model.specs.Maps.{changes_of};
 ghost use Rattle.mdb_journal.specs.Moves.{AreSynced, OthersStay};
 ghost use Rattle.value_store.specs.Writes.{StandEither};
-ghost use Rattle.mdb_core.specs.Stores.{Keeps, broken, is_failed, root_at};
+ghost use Rattle.node_table.specs.Pairs.{AreShort};
+ghost use Rattle.mdb_core.specs.Stores.{Keeps, broken, is_failed, keys_of, root_at};
 ghost use Rattle.mdb_core.specs.Proposals.{Takes, TakeFails, MayTake};
 
 use crate::fault::told;
@@ -61,6 +62,7 @@ impl Db {
             Ok(()) => {
                 self.digests = digests;
                 self.root = root;
+                self.nodes = None;
                 self.views.committed(id);
                 Ok(root)
             }
@@ -74,6 +76,7 @@ impl Db {
         ensures fault { IfErr result (TakeFails self.now id.number) }
         ensures not_disk { IsErrOf result DbFault.Disk → ⊥ }
         ensures digests { (m : Map) → self.now.digests ≡ map_digests m → IfOk result (λ digests. digests ≡ map_digests (after_batch m (changes_of self.now.forest id.number))) }
+        ensures short { IfOk result (λ digests. AreShort (keys_of digests)) }
     {
         if let Err(fault) = self.admit_next(alloc, id) {
             return Err(fault);
@@ -106,7 +109,8 @@ impl Db {
     /// The digests after the batch of a live view.
     fn digests_after(&self, alloc: Global, id: ViewId) -> Result<Digests, NoMemory>
         requires { state self.now.forest id.number ≡ Some Live }
-        ensures { (m : Map) → self.now.digests ≡ map_digests m → IfOk result (λ digests. digests ≡ map_digests (after_batch m (changes_of self.now.forest id.number))) }
+        ensures digests { (m : Map) → self.now.digests ≡ map_digests m → IfOk result (λ digests. digests ≡ map_digests (after_batch m (changes_of self.now.forest id.number))) }
+        ensures short { IfOk result (λ digests. AreShort (keys_of digests)) }
     {
         let mut digests = self.digests.copy(alloc)?;
         digests.lay(alloc, self.views.batch(id))?;

@@ -1,22 +1,28 @@
 // The digests of a map, by its keys.
-ghost use Rattle.std.specs.Prelude.{◌≡◌, ◌+◌, [], length, IfOk, OnOk, OnErr};
+ghost use Rattle.std.specs.Prelude.{◌≡◌, ◌+◌, [], length, option_map, IfOk, OnOk, OnErr};
 ghost use Rattle.std.specs.FinMap.Entries.{put};
 ghost use Rattle.std.specs.Map.{remove_entry};
 ghost use Rattle.std.specs.BTreeMap.{is_at};
 ghost use Rattle.base_model.specs.Bytes.{bytes_cmp};
 ghost use Rattle.trie_model.specs.Hashing.{value_digest as digest_of};
-ghost use Rattle.trie_model.specs.Maps.{Map, map_digests, map_items, root as root_of_map};
+ghost use Rattle.trie_model.specs.Maps.{Map, limits, map_digests, map_items, root as root_of_map};
 ghost use Rattle.trie_model.specs.Strings.{strings};
-ghost use Rattle.batch_model.specs.Batch.{put_or_removed, after_batch};
+ghost use Rattle.trie_model.specs.Table.{table};
+ghost use Rattle.batch_model.specs.Batch.{IsChange, put_or_removed, after_batch};
 ghost use Rattle.bit_keys.specs.Branch.{width_of};
+ghost use Rattle.trie_items.specs.Sources.{next_key};
+ghost use Rattle.node_table.specs.Pairs.{AreShort};
+ghost use Rattle.mdb_core.specs.Stores.{keys_of};
 
 use bit_keys::{Branch, Id};
-use map_root::{Builder, root_of_builder};
+use map_root::{Builder, root_of_builder, table_of_builder};
 use mdb_base::{Batch, Change, NoMemory};
+use node_table::NodeTable;
 use smallvec::SmallVec;
 use std::alloc::Global;
 use std::collections::BTreeMap;
 use std::marker::Model;
+use std::ops::Bound;
 use std::sync::ledger::Ledger;
 use trie_items::{Digest, Steps, value_digest};
 use value_store::PairSink;
@@ -43,6 +49,15 @@ impl PairSink for Digests {
 
     fn take(&mut self, alloc: Global, key: &[u8], value: &[u8]) -> Result<(), NoMemory> {
         self.put_copy(alloc, key, value_digest(value))
+    }
+}
+
+fn key_of<'a>(pair: Option<(&'a KeyBytes, &'a Digest)>) -> Option<&'a [u8]>
+    ensures { option_map (λ key. key.now) result ≡ option_map (λ p. p.0.now.items) pair.entry }
+{
+    match pair {
+        Some((key, _)) => Some(key.as_slice()),
+        None => None,
     }
 }
 
@@ -99,7 +114,9 @@ impl Digests {
 
     // Lays one change on the map.
     fn lay_change(&mut self, alloc: Global, change: &Change) -> Result<(), NoMemory>
-        ensures { (m : Map) → self.old ≡ map_digests m → OnOk result (self.new ≡ map_digests (put_or_removed m change.now.key change.now.value)) }
+        requires { IsChange limits change.now }
+        ensures short { AreShort (keys_of self.old) → OnOk result (AreShort (keys_of self.new)) }
+        ensures laid { (m : Map) → self.old ≡ map_digests m → OnOk result (self.new ≡ map_digests (put_or_removed m change.now.key change.now.value)) }
     {
         match &change.value {
             Some(value) => self.put_copy(alloc, &change.key, value_digest(value)),
@@ -109,7 +126,8 @@ impl Digests {
 
     /// Lays a batch on the map. Where memory runs out a part of it was laid.
     pub fn lay(&mut self, alloc: Global, batch: &Batch) -> Result<(), NoMemory>
-        ensures { (m : Map) → self.old ≡ map_digests m → OnOk result (self.new ≡ map_digests (after_batch m batch.now)) }
+        ensures short { AreShort (keys_of self.old) → OnOk result (AreShort (keys_of self.new)) }
+        ensures laid { (m : Map) → self.old ≡ map_digests m → OnOk result (self.new ≡ map_digests (after_batch m batch.now)) }
     {
         for change in batch.changes() {
             self.lay_change(alloc, change)?;
@@ -137,6 +155,41 @@ impl Digests {
             builder.add(key.as_slice(), digest.copy())?;
         }
         Ok(builder)
+    }
+
+    /// The nodes of the map's trie.
+    pub(crate) fn nodes(&self, alloc: Global, branch: Branch) -> Result<NodeTable, NoMemory>
+        ensures { IfOk result (λ nodes. (m : Map) → self.now ≡ map_digests m → nodes ≡ table (width_of branch) m) }
+    {
+        let (_root, rows) = table_of_builder(alloc, self.builder(alloc, branch)?)?;
+        Ok(NodeTable::new(rows))
+    }
+
+    /// The least key at or above that one, or above it where `past`.
+    pub(crate) fn next(
+        &self,
+        alloc: Global,
+        from: &[u8],
+        past: bool,
+    ) -> Result<Option<Vec<u8>>, NoMemory>
+        ensures { IfOk result (λ key. option_map (λ key. key.items) key ≡ next_key past from.now (keys_of self.now)) }
+    {
+        let from = KeyBytes::from_slice(alloc, from)?;
+        match self.next_in_order(from, past) {
+            Some(key) => Ok(Some(Vec::from_slice(alloc, key)?)),
+            None => Ok(None),
+        }
+    }
+
+    fn next_in_order(&self, from: KeyBytes, past: bool) -> Option<&[u8]>
+        ensures { option_map (λ key. key.now) result ≡ next_key past from.items (keys_of self.now) }
+    {
+        if past {
+            let bounds = (Bound::Excluded(from), Bound::Unbounded);
+            key_of(self.entries.range(bounds).next())
+        } else {
+            key_of(self.entries.range(from..).next())
+        }
     }
 
     /// The root of the map.

@@ -46,6 +46,9 @@ pub enum DbFault {
     /// The view stands on another one that was not committed.
     #[error("the parent of the view is not the store")]
     NotParent,
+    /// The store has no map with the root.
+    #[error("no map with this root is held")]
+    NotHeld,
     /// The store would have more than 1,000,000 pairs.
     #[error("the store is full")]
     Full,

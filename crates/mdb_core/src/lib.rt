@@ -9,14 +9,19 @@ mod applying;
 mod committing;
 mod digests;
 mod fault;
+mod naming;
 mod opening;
 mod proposing;
 mod reading;
+mod source;
+mod spot;
 mod store;
 #[cfg(test)]
 mod tests;
 
 pub use digests::{Digests, KeyBytes};
 pub use fault::DbFault;
+pub use source::DbSource;
+pub use spot::{Proposal, Spot};
 pub use store::{At, Config, Db};
 pub use view_stack::{ViewId, ViewState};

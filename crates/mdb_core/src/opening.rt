@@ -79,6 +79,7 @@ fn rooted<D: Disk>(
             branch,
             views: ViewStack::new(alloc),
             roots: Vec::new(alloc),
+            nodes: None,
         }),
         Err(_) => Err(DbFault::NoMemory),
     }

@@ -1,5 +1,5 @@
 // What is read of the map and of its views.
-ghost use Rattle.std.specs.Prelude.{◌≡◌, ◌⊎◌, ◌≤◌, false, Some, None, option_map, IfOk, OnOk, IfErr, IsErrOf, MatchOption};
+ghost use Rattle.std.specs.Prelude.{◌≡◌, ◌⊎◌, ◌≤◌, false, Some, None, option_map, IfOk, OnOk, IfErr, IfSome, IsErrOf, MatchOption};
 ghost use Rattle.std.specs.FinMap as map_of;
 ghost use Rattle.base_model.specs.Faults.{Rose};
 ghost use Rattle.disk_model.specs.Words.{TellsContents};
@@ -11,10 +11,12 @@ ghost use Rattle.view_model.specs.Maps.{laid, view_map, parent_map};
 ghost use Rattle.view_model.specs.Standing.{AreLive};
 ghost use Rattle.view_stack.specs.Told.{state_told, number_in, numbers};
 ghost use Rattle.mdb_journal.specs.Opening.{Untouched};
-ghost use Rattle.mdb_core.specs.Stores.{Keeps, broken, is_failed, root_at};
+ghost use Rattle.node_table.specs.Pairs.{AreShort};
+ghost use Rattle.mdb_core.specs.Stores.{Keeps, broken, is_failed, keys_of, root_at};
 ghost use Rattle.mdb_core.specs.Places.{GetFails, MayRead, fault_of_refusal, map_at};
 
 use crate::fault::told;
+use crate::naming::Found;
 use crate::{At, Db, DbFault, Digests, ViewId, ViewState};
 use bit_keys::Id;
 use disk_world::Disk;
@@ -65,7 +67,8 @@ impl Db {
         parent: Option<ViewId>,
     ) -> Result<Digests, NoMemory>
         requires { parent_refused self.now.forest (number_in parent) ≡ None }
-        ensures { (m : Map) → self.now.digests ≡ map_digests m → IfOk result (λ digests. digests ≡ map_digests (parent_map self.now.forest m (number_in parent))) }
+        ensures digests { (m : Map) → self.now.digests ≡ map_digests m → IfOk result (λ digests. digests ≡ map_digests (parent_map self.now.forest m (number_in parent))) }
+        ensures short { IfOk result (λ digests. AreShort (keys_of digests)) }
     {
         let mut digests = self.digests.copy(alloc)?;
         if let Some(id) = parent {
@@ -78,7 +81,8 @@ impl Db {
     /// Lays the batches of live views on the digests of a map, one after another.
     fn lay_all(&self, alloc: Global, digests: &mut Digests, ids: &[ViewId]) -> Result<(), NoMemory>
         requires { AreLive self.now.forest (numbers ids.now) }
-        ensures { (m : Map) → digests.old ≡ map_digests m → OnOk result (digests.new ≡ map_digests (laid self.now.forest m (numbers ids.now))) }
+        ensures laid { (m : Map) → digests.old ≡ map_digests m → OnOk result (digests.new ≡ map_digests (laid self.now.forest m (numbers ids.now))) }
+        ensures short { AreShort (keys_of digests.old) → OnOk result (AreShort (keys_of digests.new)) }
     {
         for id in ids {
             digests.lay(alloc, self.views.batch(*id))?;
@@ -95,7 +99,7 @@ impl Db {
         key: &[u8],
     ) -> Result<Option<Vec<u8>>, DbFault>
         ensures value { TellsContents D.words.tells → (m : Map) → Keeps self.old m (D.words.seen disk.old)
-            → IfOk result (λ value. option_map (λ v. v.items) value ≡ map_of.get (map_at self.old m at) key.now) }
+            → IfOk result (λ value. IfSome (map_at self.old m at) (λ n. option_map (λ v. v.items) value ≡ map_of.get n key.now)) }
         ensures may { OnOk result (MayRead self.old at) }
         ensures fault { IfErr result (GetFails self.old at) }
         ensures fails { IsErrOf result DbFault.Disk → self.new ≡ broken self.old }
@@ -104,15 +108,11 @@ impl Db {
         ensures later { D.words.faults disk.old ≤ D.words.faults disk.new }
         ensures disk { IsErrOf result DbFault.Disk → Rose (D.words.faults disk.old) (D.words.faults disk.new) }
     {
-        if self.values.failed() {
-            return Err(DbFault::Failed);
-        }
-        match at {
-            At::Store => self.get_stored(alloc, disk, key),
-            At::View(id) => match self.live(id) {
-                Ok(()) => self.get_proposed(alloc, disk, id, key),
-                Err(fault) => Err(fault),
-            },
+        match self.find(at) {
+            Ok(Found::Store) => self.get_stored(alloc, disk, key),
+            Ok(Found::View(id)) => self.get_proposed(alloc, disk, id, key),
+            Ok(Found::Empty) => Ok(None),
+            Err(fault) => Err(fault),
         }
     }
 
@@ -138,6 +138,7 @@ impl Db {
             Err(fault) => Err(told(fault)),
         }
     }
+
     /// The value that a live view has at a key.
     fn get_proposed<D: Disk>(
         &mut self,

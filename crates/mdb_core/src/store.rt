@@ -6,6 +6,7 @@ ghost use Rattle.mdb_core.specs.Stores.{is_failed};
 use crate::{DbFault, Digests, ViewId};
 use bit_keys::{Branch, Id};
 use disk_world::Disk;
+use node_table::NodeTable;
 use std::marker::Model;
 use value_store::ValueStore;
 use view_stack::ViewStack;
@@ -28,6 +29,9 @@ pub enum At {
     Store,
     /// The map of a live view.
     View(ViewId),
+    /// The map with this root. It is that of the store, or, where that one has another root, by 32
+    /// zeros the empty map.
+    Root(Id),
 }
 
 /// A map on a disk, with its root, and the views on it. It belongs to the disk on which it was opened.
@@ -42,6 +46,8 @@ pub struct Db {
     pub(crate) views: ViewStack,
     /// The root of each view when it was made, in the order of their numbers.
     pub(crate) roots: Vec<Id>,
+    /// The nodes of the map's trie, once they were asked for, until the next commit.
+    pub(crate) nodes: Option<NodeTable>,
 }
 
 impl Model for Db {
@@ -52,7 +58,7 @@ impl Model for Db {
 
     ghost view = { λ d. record { values = d.values; digests = d.digests; width = width_of d.branch; root = d.root; forest = d.views.forest; roots = d.roots.items } };
 
-    ghost invariant = { λ d. IsStore (record { values = d.values; digests = d.digests; width = width_of d.branch; root = d.root; forest = d.views.forest; roots = d.roots.items }) };
+    ghost invariant = { λ d. IsStore (record { values = d.values; digests = d.digests; width = width_of d.branch; root = d.root; forest = d.views.forest; roots = d.roots.items }) d.nodes };
 }
 
 impl Db {

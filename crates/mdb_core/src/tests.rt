@@ -1,6 +1,6 @@
 ghost use Rattle.std.specs.Prelude.{◌≡◌, ◌<◌};
 
-use crate::{At, Config, Db, DbFault, Digests, KeyBytes, ViewId, ViewState};
+use crate::{At, Config, Db, DbFault, DbSource, Digests, KeyBytes, Spot, ViewId, ViewState};
 use bit_keys::{Branch, Id};
 use disk_world::Disk;
 use mdb_base::{Batch, BatchFault};
@@ -11,7 +11,7 @@ use std::marker::Brand;
 use std::process::Abort;
 use std::sync::ledger::{Blank, Ledger};
 use std::test::Fail;
-use trie_items::{Steps, value_digest};
+use trie_items::{NodeSource, SourceFault, Steps, value_digest};
 
 /// A store of one commit, which puts 76 at 6b, with 16 children a node.
 const WORKED: [u8; 37] = [
@@ -532,5 +532,137 @@ fn a_view_may_be_so_far_from_the_store_and_no_farther(rt: HostRuntime) -> Result
         Err(DbFault::TooDeep)
     );
     assert_eq!(rt; db.state(ViewId { number: 65 }), None);
+    Ok(())
+}
+
+/// What a source tells of a map: the bits of the key of its root node, the IDs of the nodes below that one, and
+/// the pairs.
+type Told<'a> = (Option<u64>, &'a [Id], &'a [(u8, u8)]);
+
+fn assert_nodes<N: NodeSource>(
+    rt: &impl Abort,
+    alloc: Global,
+    source: &mut N,
+    bits: Option<u64>,
+    below: &[Id],
+) -> Result<(), Fail> {
+    let root = source.root_key(alloc)?;
+    assert_eq!(rt; root.as_ref().map(|key| key.bits()), bits);
+    let Some(key) = root else {
+        return Ok(());
+    };
+    let Some(node) = source.node(alloc, &key)? else {
+        assert!(rt; false, "no root node");
+        return Ok(());
+    };
+    assert_eq!(rt; node.children.len(), below.len());
+    for (child, id) in node.children.iter().zip(below) {
+        assert_eq!(rt; child.id, *id);
+    }
+    Ok(())
+}
+
+fn assert_pairs<N: NodeSource>(
+    rt: &impl Abort,
+    alloc: Global,
+    source: &mut N,
+    pairs: &[(u8, u8)],
+) -> Result<(), Fail> {
+    let mut last = None;
+    for (key, value) in pairs {
+        let next = source.next(alloc, last.as_slice(), last.is_some())?;
+        assert_eq!(rt; one_byte(next), Some(*key));
+        let found = source.value(alloc, &[*key])?;
+        assert_eq!(rt; one_byte(found), Some(*value));
+        last = Some(*key);
+    }
+    let next = source.next(alloc, last.as_slice(), last.is_some())?;
+    assert_eq!(rt; one_byte(next), None);
+    Ok(())
+}
+
+fn assert_told<D: Disk>(
+    rt: &impl Abort,
+    alloc: Global,
+    disk: &mut D,
+    db: &mut Db,
+    at: At,
+    want: Told,
+) -> Result<(), Fail> {
+    let (bits, below, pairs) = want;
+    let spot = db.source(alloc, disk, at)?;
+    let mut source = DbSource {
+        db: &mut *db,
+        disk: &mut *disk,
+        spot: &spot,
+    };
+    assert_nodes(rt, alloc, &mut source, bits, below)?;
+    assert_pairs(rt, alloc, &mut source, pairs)
+}
+
+/// A store of {6b: 76}, and on it the view 2, which puts 77 at 6c.
+fn with_view<D: Disk>(alloc: Global, disk: &mut D) -> Result<Db, Fail> {
+    let mut db = opened(alloc, disk, Branch::B16)?;
+    let first = batch_of(alloc, &[(b"k", Some(b"v"))])?;
+    applied(alloc, disk, &mut db, first)?;
+    let second = batch_of(alloc, &[(b"l", Some(b"w"))])?;
+    made(alloc, disk, &mut db, None, second)?;
+    Ok(db)
+}
+
+#[test]
+fn a_source_tells_the_map_of_its_place(rt: HostRuntime) -> Result<(), Fail> {
+    let alloc = rt.alloc();
+    let mut disk = MemDisk::new(alloc);
+    let mut db = with_view(alloc, &mut disk)?;
+    let view = ViewId { number: 2 };
+    let root = root_of_one(0x6b, 0x76);
+    let below = [root, root_of_one(0x6c, 0x77)];
+    let pairs = [(0x6b, 0x76), (0x6c, 0x77)];
+    let one: Told = (Some(8), &[], &[(0x6b, 0x76)]);
+    let both: Told = (Some(4), &below, &pairs);
+    let none: Told = (None, &[], &[]);
+    for (at, want) in [
+        (At::Store, one),
+        (At::Root(root), one),
+        (At::View(view), both),
+        (At::Root(EMPTY), none),
+    ] {
+        assert_told(&rt, alloc, &mut disk, &mut db, at, want)?;
+    }
+    db.commit(alloc, &mut disk, view)?;
+    for at in [At::Store, At::Root(root_of_both())] {
+        assert_told(&rt, alloc, &mut disk, &mut db, at, both)?;
+    }
+    Ok(())
+}
+
+fn refused<D: Disk>(alloc: Global, disk: &mut D, db: &mut Db, at: At) -> Option<DbFault> {
+    db.source(alloc, disk, at).err()
+}
+
+#[test]
+fn a_place_that_names_no_map_is_refused(rt: HostRuntime) -> Result<(), Fail> {
+    let alloc = rt.alloc();
+    let mut disk = MemDisk::new(alloc);
+    let mut db = with_view(alloc, &mut disk)?;
+    for (at, want) in [
+        (At::Root(root_of_both()), DbFault::NotHeld),
+        (At::View(ViewId { number: 9 }), DbFault::Unknown),
+    ] {
+        assert_eq!(rt; refused(alloc, &mut disk, &mut db, at), Some(want));
+        assert_eq!(rt; db.get(alloc, &mut disk, at, b"k"), Err(want));
+    }
+    disk.fuse(0);
+    let mut source = DbSource {
+        db: &mut db,
+        disk: &mut disk,
+        spot: &Spot::Store,
+    };
+    assert_eq!(rt; source.value(alloc, b"k"), Err(SourceFault::Failed));
+    assert_eq!(rt;
+        refused(alloc, &mut disk, &mut db, At::Store),
+        Some(DbFault::Failed)
+    );
     Ok(())
 }

@@ -13,3 +13,4 @@ pub mod PlacesAfter
 pub mod PlacedMaps
 pub mod WrittenBatches
 pub mod PairsTaken
+pub mod ShortKeys

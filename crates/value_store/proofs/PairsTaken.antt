@@ -1,5 +1,5 @@
 -- Pairs that are read at their places, and taken one after another.
-use Rattle.std.proofs.Common.{◌≡◌, ℕ, ◌+◌, cond, List, [], ◌∷◌, ◌++◌, map, refl, sym, ap, ◌∙◌, subst, append_assoc, Vec, Global, Option, Some, Less, Greater}
+use Rattle.std.proofs.Common.{◌≡◌, ℕ, cond, List, [], ◌∷◌, ◌++◌, map, refl, sym, ap, ◌∙◌, subst, append_assoc, Vec, Global, Option, Some, Less, Greater}
 use Rattle.std.specs.Prelude.{IfSome}
 use Rattle.std.specs.Ordering.{is_eq, ordering_reverse}
 use Rattle.std.specs.Cmp.{tied_itself}
@@ -12,7 +12,7 @@ use Rattle.std.proofs.lemmas.Cmp.{nat_list_cmp_total}
 use Rattle.std.proofs.lemmas.List.{append-nil}
 use Rattle.base_model.specs.Bytes.{bytes_cmp}
 use Rattle.value_store.specs.Values.{Place, pair_in}
-use Rattle.value_store.specs.Index.{Places, placed, places_of, key_order, AreInOrder, AreInFile, IsInFile}
+use Rattle.value_store.specs.Index.{Places, placed, places_of, key_order, AreInOrder, AreInFile, IsInFile, IsShort, HasShortKeys}
 use Rattle.value_store.specs.PairSinks.{TakesAll}
 use Rattle.value_store.proofs.IndexEntries.{get-places_of, entries-places_of}
 
@@ -38,15 +38,20 @@ lookup-split (x ∷ done) k p rest h =
     ap (λ o. cond (is_eq o) (Some x.1) (lookup (is_at (bytes_cmp k.items)) (map placed (done ++ (k, p) ∷ rest)))) above
     ∙ lookup-split done k p rest h.1
 
--- the place of an entry is within the file
-pub entry_in_file : (end : ℕ) (index : Places) (all done rest : List Entry) (k : Vec ℕ Global) (p : Place) → places_of all ≡ index → AreInOrder all → done ++ (k, p) ∷ rest ≡ all → AreInFile end index → IsInFile end p
-entry_in_file end index all done rest k p is sorted whole within =
-    let found : get index k.items ≡ Some p =
+entry_found : (index : Places) (all done rest : List Entry) (k : Vec ℕ Global) (p : Place) → places_of all ≡ index → AreInOrder all → done ++ (k, p) ∷ rest ≡ all → get index k.items ≡ Some p
+entry_found index all done rest k p is sorted whole =
     ap (λ (m : Places). get m k.items) (sym is)
     ∙ get-places_of all sorted k.items
     ∙ ap (λ (es : List Entry). lookup (is_at (bytes_cmp k.items)) (map placed es)) (sym whole)
-    ∙ lookup-split done k p rest (subst AreInOrder (sym whole) sorted) in
-    subst (λ (o : Option Place). IfSome o (IsInFile end)) found (within k.items)
+    ∙ lookup-split done k p rest (subst AreInOrder (sym whole) sorted)
+
+-- the place of an entry is within the file
+pub entry_in_file : (end : ℕ) (index : Places) (all done rest : List Entry) (k : Vec ℕ Global) (p : Place) → places_of all ≡ index → AreInOrder all → done ++ (k, p) ∷ rest ≡ all → AreInFile end index → IsInFile end p
+entry_in_file end index all done rest k p is sorted whole within = subst (λ (o : Option Place). IfSome o (IsInFile end)) (entry_found index all done rest k p is sorted whole) (within k.items)
+
+-- and its key within the limit
+pub entry_short : (index : Places) (all done rest : List Entry) (k : Vec ℕ Global) (p : Place) → places_of all ≡ index → AreInOrder all → done ++ (k, p) ∷ rest ≡ all → HasShortKeys index → IsShort k.items
+entry_short index all done rest k p is sorted whole short = subst (λ (o : Option Place). IfSome o (λ _. IsShort k.items)) (entry_found index all done rest k p is sorted whole) (short k.items)
 
 -- ---- what was taken
 
@@ -64,13 +69,17 @@ pairs-split bytes (x ∷ done) e = ap (λ (es : List (List ℕ × List ℕ)). pa
 
 -- some pairs were taken, whatever was read
 abbrev pub TakesSome : {S : Type 0} → (S → List ℕ → List ℕ → S → Type 0) → S → S → Type 0
-TakesSome takes s t = (es : List (List ℕ × List ℕ)) × TakesAll takes s es t
+TakesSome takes s t = (es : List (List ℕ × List ℕ)) × AllByRecursion (λ (e : List ℕ × List ℕ). IsShort e.0) es × TakesAll takes s es t
 
 pub takes_none : {S : Type 0} (takes : S → List ℕ → List ℕ → S → Type 0) (s : S) → TakesSome takes s s
-takes_none takes s = ([], refl)
+takes_none takes s = ([], tt, refl)
 
-pub takes_more : {S : Type 0} (takes : S → List ℕ → List ℕ → S → Type 0) (s : S) (key value : List ℕ) (t u : S) → TakesSome takes s t → takes t key value u → TakesSome takes s u
-takes_more takes s key value t u h g = (h.0 ++ (key, value) ∷ [], takes_last takes s h.0 (key, value) t u h.1 g)
+short_last : (es : List (List ℕ × List ℕ)) (e : List ℕ × List ℕ) → AllByRecursion (λ (e : List ℕ × List ℕ). IsShort e.0) es → IsShort e.0 → AllByRecursion (λ (e : List ℕ × List ℕ). IsShort e.0) (es ++ e ∷ [])
+short_last [] e h one = (one, tt)
+short_last (x ∷ es) e h one = (h.0, short_last es e h.1 one)
+
+pub takes_more : {S : Type 0} (takes : S → List ℕ → List ℕ → S → Type 0) (s : S) (key value : List ℕ) (t u : S) → TakesSome takes s t → IsShort key → takes t key value u → TakesSome takes s u
+takes_more takes s key value t u h short g = (h.0 ++ (key, value) ∷ [], short_last h.0 (key, value) h.1 short, takes_last takes s h.0 (key, value) t u h.2 g)
 
 -- of all entries these are left
 pub record Left (all rest : List Entry) : Type 0 where

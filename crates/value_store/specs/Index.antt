@@ -1,5 +1,5 @@
 -- What the index of a value store knows: places by keys.
-use Rattle.std.specs.Prelude.{ℕ, ◌+◌, ◌≤◌, nat_le, if◌then◌else◌, List, map, Option, Some, None, IfSome}
+use Rattle.std.specs.Prelude.{ℕ, ◌+◌, ◌≤◌, nat_le, if◌then◌else◌, List, length, map, Option, Some, None, IfSome}
 use Rattle.std.specs.Coded.{Coded, code_by, coded×, coded_ℕ, coded_list}
 use Rattle.std.specs.FinMap as map_of
 use Rattle.std.specs.Map.{keys_of}
@@ -7,6 +7,7 @@ use Rattle.std.specs.List.Sorted.{IsStrictlySortedBy}
 use Rattle.std.specs.declared.cmp.Ordering.{Ordering}
 use Rattle.std.proofs.Common.{Vec, Global, refl}
 use Rattle.base_model.specs.Bytes.{bytes_cmp}
+use Rattle.trie_model.specs.Maps.{key_limit}
 use Rattle.store_model.specs.Header.{first_gate}
 use Rattle.value_store.specs.Values.{Place}
 
@@ -47,3 +48,10 @@ IsInFile end p = (first_gate ≤ p.start) × (p.start + p.count ≤ end)
 
 abbrev pub AreInFile : ℕ → Places → Type 0
 AreInFile end index = (key : List ℕ) → IfSome (map_of.get index key) (IsInFile end)
+
+-- a key within its limit
+abbrev pub IsShort : List ℕ → Type 0
+IsShort key = length key ≤ key_limit
+
+abbrev pub HasShortKeys : Places → Type 0
+HasShortKeys index = (key : List ℕ) → IfSome (map_of.get index key) (λ _. IsShort key)

@@ -3,6 +3,7 @@ ghost use Rattle.std.specs.Prelude.{◌≡◌, ◌≤◌, length, option_map, If
 ghost use Rattle.base_model.specs.Fields.{Field};
 ghost use Rattle.trie_model.specs.Maps.{limits};
 ghost use Rattle.batch_model.specs.Batch.{key_at};
+ghost use Rattle.value_store.specs.Index.{IsShort};
 ghost use Rattle.value_store.specs.Heads.{or_outside, limited_at, count_at, head_at};
 ghost use Rattle.value_store.specs.SeenHeads.{seen_head};
 
@@ -39,6 +40,7 @@ fn read_limited(bytes: &[u8], at: usize, limit: usize) -> Option<(usize, usize)>
 fn read_key<'a>(bytes: &'a [u8], last: &LastKey) -> Option<(&'a [u8], usize)>
     ensures exact { or_outside (option_map (λ x. (x.0.now, x.1)) result) ≡ key_at limits last.now bytes.now 0 }
     ensures within { IfSome result (λ x. x.1 ≤ length bytes.now) }
+    ensures short { IfSome result (λ x. IsShort x.0.now) }
 {
     let Some((count, start)) = read_limited(bytes, 0, KEY_LIMIT) else {
         return None;
@@ -79,6 +81,7 @@ fn read_count(bytes: &[u8], at: usize) -> Option<(Option<u32>, usize)>
 pub(crate) fn read_head<'a>(bytes: &'a [u8], last: &LastKey) -> Option<Head<'a>>
     ensures exact { or_outside (option_map seen_head result) ≡ head_at limits last.now bytes.now 0 }
     ensures within { IfSome result (λ h. h.length ≤ length bytes.now) }
+    ensures short { IfSome result (λ h. IsShort h.key.now) }
 {
     let Some((key, behind)) = read_key(bytes, last) else {
         return None;

@@ -1,13 +1,14 @@
 // Where the values of a store stand, by their keys.
 ghost use Rattle.std.specs.Prelude.{◌≡◌, ◌⊎◌, ℕ, ◌+◌, ◌^◌, ◌<◌, ◌≤◌, true, false, None, List, map, IsSome, IfErr, IsErrOf, OnOk, OnErr, option_map, option_copied};
 ghost use Rattle.std.specs.FinMap as map_of;
+ghost use Rattle.std.specs.List.{AllByRecursion};
 ghost use Rattle.base_model.specs.Bytes.{bytes_cmp};
 ghost use Rattle.base_model.specs.Faults.{Rose};
 ghost use Rattle.disk_model.specs.Words.{TellsContents};
 ghost use Rattle.mdb_journal.specs.Opening.{Untouched};
 ghost use Rattle.value_store.specs.PairSinks.{TakesAll};
 ghost use Rattle.value_store.specs.Values.{is_next, next_of, last_of, pair_in};
-ghost use Rattle.value_store.specs.Index.{AreInFile, up_to};
+ghost use Rattle.value_store.specs.Index.{AreInFile, IsShort, up_to};
 
 use crate::reading::read_value;
 use crate::{PairSink, Place, ValueFault};
@@ -19,7 +20,7 @@ use std::collections::BTreeMap;
 use std::marker::Model;
 use std::ops::Bound;
 
-/// The places of values, in the order of their keys.
+/// The places of values, in the order of their keys, each of which is within its limit.
 #[derive(Drop)]
 pub(crate) struct Index {
     places: BTreeMap<Vec<u8>, Place>,
@@ -27,7 +28,7 @@ pub(crate) struct Index {
 }
 
 impl Model for Index {
-    ghost use Rattle.value_store.specs.Index.{Places, places_code, places_of, AreInOrder};
+    ghost use Rattle.value_store.specs.Index.{Places, places_code, places_of, AreInOrder, HasShortKeys};
 
     ghost Value = { Places };
 
@@ -35,7 +36,7 @@ impl Model for Index {
 
     ghost view = { λ x. places_of x.places.entries };
 
-    ghost invariant = { λ x. AreInOrder x.places.entries };
+    ghost invariant = { λ x. AreInOrder x.places.entries × HasShortKeys (places_of x.places.entries) };
 }
 
 // The key is at or above that one, or above it where `past`.
@@ -81,6 +82,7 @@ impl Index {
 
     /// Puts a place at a key, in the place of the one that is there.
     pub(crate) fn put(&mut self, key: Vec<u8>, place: Place) -> Result<(), NoMemory>
+        requires { IsShort key.items }
         ensures ok { OnOk result (self.new ≡ map_of.insert self.old key.items place) }
         ensures err { OnErr result (self.new ≡ self.old) }
     {
@@ -156,7 +158,7 @@ impl Index {
         requires works { journal.old.failed ≡ false }
         requires within { AreInFile journal.old.end self.now }
         ensures taken { TellsContents D.words.tells → OnOk result (TakesAll P.takes pairs.old (map (pair_in (D.words.seen disk.old journal.old.file)) (map_of.entries self.now)) pairs.new) }
-        ensures some { OnOk result ((es : List (List ℕ × List ℕ)) × TakesAll P.takes pairs.old es pairs.new) }
+        ensures some { OnOk result ((es : List (List ℕ × List ℕ)) × AllByRecursion (λ e. IsShort e.0) es × TakesAll P.takes pairs.old es pairs.new) }
         ensures fault { IfErr result (λ fault. (fault ≡ ValueFault.Disk) ⊎ (fault ≡ ValueFault.NoMemory)) }
         ensures fails { IsErrOf result ValueFault.Disk → journal.new ≡ record journal.old { failed = true } }
         ensures stays { (IsErrOf result ValueFault.Disk → ⊥) → journal.new ≡ journal.old }

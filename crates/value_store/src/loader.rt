@@ -10,7 +10,7 @@ ghost use Rattle.store_model.specs.Header.{first_gate};
 ghost use Rattle.store_model.specs.Record.{Record};
 ghost use Rattle.mdb_journal.specs.Journal.{Knows};
 ghost use Rattle.mdb_journal.specs.Opening.{Untouched};
-ghost use Rattle.value_store.specs.Index.{AreInFile, IsInFile};
+ghost use Rattle.value_store.specs.Index.{AreInFile, IsInFile, IsShort};
 ghost use Rattle.value_store.specs.Reading.{laid, Shows, Midway, Counted, BatchRead, payload_at, place_behind};
 
 use crate::Place;
@@ -54,6 +54,7 @@ fn place_behind(start: u64, count: Option<u32>) -> Option<Place>
 
 // Puts a key at a place, or takes it out.
 fn lay(alloc: Global, index: &mut Index, key: &[u8], place: Option<Place>) -> Result<(), NoMemory>
+    requires { IsShort key.now }
     ensures { OnOk result (index.new ≡ laid index.old key.now place) }
 {
     match place {

@@ -4,7 +4,7 @@ ghost use Rattle.std.specs.FinMap as map_of;
 ghost use Rattle.std.specs.List.{AllByRecursion, flat_map};
 ghost use Rattle.trie_model.specs.Maps.{limits};
 ghost use Rattle.batch_model.specs.Batch.{IsChange, AreRising, change_form};
-ghost use Rattle.value_store.specs.Index.{up_to};
+ghost use Rattle.value_store.specs.Index.{IsShort, up_to};
 ghost use Rattle.value_store.specs.Reading.{laid};
 ghost use Rattle.value_store.specs.Placing.{value_place, laid_all, room_for, with_room, adds, takes, HasRoom};
 
@@ -71,6 +71,7 @@ fn make_room(
     key: &[u8],
     place: Option<Place>,
 ) -> Result<(), NoMemory>
+    requires { IsShort key.now }
     ensures ok { OnOk result (index.new ≡ room_for index.old key.now place) }
     ensures err { OnErr result (index.new ≡ index.old) }
 {

@@ -1,10 +1,12 @@
 // Reading values.
 ghost use Rattle.std.specs.Prelude.{◌≡◌, ◌⊎◌, ℕ, List, ◌+◌, ◌≤◌, true, false, is_some, option_map, OnOk, IfOk, IfErr, IsErrOf};
 ghost use Rattle.std.specs.FinMap as map_of;
+ghost use Rattle.std.specs.List.{AllByRecursion};
 ghost use Rattle.base_model.specs.Faults.{Rose};
 ghost use Rattle.disk_model.specs.Words.{TellsContents};
 ghost use Rattle.trie_model.specs.Maps.{Map};
 ghost use Rattle.mdb_journal.specs.Opening.{Untouched};
+ghost use Rattle.value_store.specs.Index.{IsShort};
 ghost use Rattle.value_store.specs.PairSinks.{TakesAll};
 ghost use Rattle.value_store.specs.Values.{Keeps, HasKeys, broken, value_in};
 
@@ -54,7 +56,7 @@ impl ValueStore {
     ) -> Result<(), ValueFault>
         requires works { self.old.journal.failed ≡ false }
         ensures taken { TellsContents D.words.tells → (m : Map) → Keeps self.old m (D.words.seen disk.old) → OnOk result (TakesAll P.takes pairs.old (map_of.entries m) pairs.new) }
-        ensures some { OnOk result ((es : List (List ℕ × List ℕ)) × TakesAll P.takes pairs.old es pairs.new) }
+        ensures some { OnOk result ((es : List (List ℕ × List ℕ)) × AllByRecursion (λ e. IsShort e.0) es × TakesAll P.takes pairs.old es pairs.new) }
         ensures fault { IfErr result (λ fault. (fault ≡ ValueFault.Disk) ⊎ (fault ≡ ValueFault.NoMemory)) }
         ensures fails { IsErrOf result ValueFault.Disk → self.new ≡ broken self.old }
         ensures stays { (IsErrOf result ValueFault.Disk → ⊥) → self.new ≡ self.old }

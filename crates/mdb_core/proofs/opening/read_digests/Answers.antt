@@ -13,4 +13,4 @@ returns-in-Ok-clause-digests g c = λ told m keeps.
 pub returns-in-Ok-clause-some : goal.returns-in-Ok-clause-some
 returns-in-Ok-clause-some g c =
     let taken = c.in-Ok.ensures.some in
-    some_digests taken.0 [] c.each.new.pairs none-AreDigests (subst (λ (ds : List (List ℕ × List ℕ)). TakesAll puts_digest ds taken.0 c.each.new.pairs) c.new-digests.ensures taken.1)
+    some_digests taken.0 [] c.each.new.pairs taken.1 none-AreDigests (subst (λ (ds : List (List ℕ × List ℕ)). TakesAll puts_digest ds taken.0 c.each.new.pairs) c.new-digests.ensures taken.2)

@@ -8,7 +8,7 @@ use Rattle.mdb_core.proofs.store.Db.commit.Goals as goal
 
 pub invariant_of-self : goal.invariant_of-self
 invariant_of-self g c =
-    taken _ c.args.self.now c.write.new.self c.in-Ok.digests c.known_root-root.result c.args.id.number c.committed.new.self.forest c.self.view_is c.self.invariant c.in-Ok.ensures.may.next c.in-Ok.ensures.digests c.known_root-root.ensures c.committed.ensures.step.1
+    taken _ c.args.self.now c.write.new.self c.in-Ok.digests c.known_root-root.result c.args.id.number c.committed.new.self.forest c.self.view_is c.self.invariant c.in-Ok.ensures.may.next c.in-Ok.ensures.digests c.in-Ok.ensures.short c.known_root-root.ensures c.committed.ensures.step.1
 
 pub returns-in-Ok-write-clause-contents : goal.returns-in-Ok-write-clause-contents
 returns-in-Ok-write-clause-contents g c = λ told m k.

@@ -1,9 +1,12 @@
-use Rattle.std.proofs.Common.{ap, sym, ◌∙◌}
-use Rattle.mdb_core.specs.Stores.{is_failed}
-use Rattle.mdb_core.proofs.Refusals.{get_fails}
+use Rattle.std.proofs.Common.{◌≡◌, sym, ap, ◌∙◌, subst, Some, None}
+use Rattle.std.specs.Prelude.{IfSome}
+use Rattle.std.specs.FinMap.{get, get-empty}
+use Rattle.base_model.specs.Bytes.{bytes_cmp}
+use Rattle.trie_model.specs.Maps.{Map}
+use Rattle.mdb_core.specs.Found.{map_found}
 use Rattle.mdb_core.proofs.store.Db.get.Goals as goal
 
-pub returns-in-Err-clause-fault : goal.returns-in-Err-clause-fault
-returns-in-Err-clause-fault g c =
-    let works = ap is_failed (sym c.self.view_is) ∙ (sym c.failed.ensures ∙ c.if-failed.false) in
-    get_fails c.args.self.now c.args.at c.in-View.id c.live.result c.in-Err.fault works c.in-View.is c.live.ensures c.in-Err.is
+pub returns-in-Ok-Empty-clause-value : goal.returns-in-Ok-Empty-clause-value
+returns-in-Ok-Empty-clause-value g c = λ told m k.
+    let found = c.in-Ok-Empty.ensures.found m k.digests ∙ ap (λ f. Some (map_found c.args.self.now m f)) c.in-Ok-Empty.field-0-is in
+    subst (λ o. IfSome o (λ (n : Map). None ≡ get n c.args.key.now)) (sym found) (sym (get-empty bytes_cmp c.args.key.now))

@@ -11,7 +11,7 @@ use Rattle.mdb_core.specs.Stores.{DbState}
 use Rattle.mdb_core.proofs.store.Db.lay_all.Goals as goal
 
 pub loop-id-init : goal.loop-id-init
-loop-id-init c = record { live = c.requires; laid = λ m e. (m, e, refl) }
+loop-id-init c = record { live = c.requires; laid = λ m e. (m, e, refl); short = λ all. all }
 
 pub batch-requires : goal.batch-requires
 batch-requires c =
@@ -36,11 +36,12 @@ loop-id-preserved c =
           let before = c.loop-id.invariant.laid m e in
           let now : Map = after_batch before.0 c.batch.result.now in
           let rest = numbers (drop (i + 1) c.args.ids.now) in
-          (now, c.in_ok-lay.ensures before.0 before.1, ap (λ cs. laid f (after_batch before.0 cs) rest) batch ∙ (sym (ap (λ ids. laid f before.0 (numbers ids)) ahead) ∙ before.2));
+          (now, c.in_ok-lay.ensures.laid before.0 before.1, ap (λ cs. laid f (after_batch before.0 cs) rest) batch ∙ (sym (ap (λ ids. laid f before.0 (numbers ids)) ahead) ∙ before.2));
+      short = λ all. c.in_ok-lay.ensures.short (c.loop-id.invariant.short all);
     }
 
-pub returns : goal.returns
-returns c = λ m e.
+pub returns-clause-laid : goal.returns-clause-laid
+returns-clause-laid c = λ m e.
     let before = c.loop-id.invariant.laid m e in
     let none = drop_all c.loop-id.id-index c.args.ids.now c.loop-id-test.false in
     before.1 ∙ ap map_digests (sym (ap (λ ids. laid c.args.self.now.forest before.0 (numbers ids)) none) ∙ before.2)

@@ -10,5 +10,5 @@ pub loop-key-init : goal.loop-key-init
 loop-key-init c =
     ap (λ ks. next_of ks c.args.from.now c.args.past)
     (ap (map vec_items) (c.into_iter-key-iterator.ensures.into_iter_gives ∙ c.keys-key-items.ensures.rest)
-    ∙ sym (keys-places_of c.self.inside.places.entries c.self.invariant)
+    ∙ sym (keys-places_of c.self.inside.places.entries c.self.invariant.0)
     ∙ ap (λ (m : Places). keys m) c.self.view_is)

@@ -6,5 +6,5 @@ use Rattle.value_store.proofs.index.Index.get.Goals as goal
 
 pub returns : goal.returns
 returns c =
-    c.copied.ensures ∙ c.get.ensures.value ∙ sym (get-entries_of c.self.inside.places.entries c.self.invariant c.args.key.now)
+    c.copied.ensures ∙ c.get.ensures.value ∙ sym (get-entries_of c.self.inside.places.entries c.self.invariant.0 c.args.key.now)
     ∙ ap (λ (m : Places). get m c.args.key.now) c.self.view_is

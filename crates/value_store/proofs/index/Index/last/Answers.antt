@@ -10,4 +10,4 @@ returns c =
     let es = c.self.inside.places.entries in
     c.key_of.ensures
     ∙ last-lent c.last_key_value.result es c.last_key_value.ensures.variant.1 c.last_key_value.ensures.last
-    ∙ ap last_of (sym (keys-places_of es c.self.invariant) ∙ ap (λ (m : Places). keys m) c.self.view_is)
+    ∙ ap last_of (sym (keys-places_of es c.self.invariant.0) ∙ ap (λ (m : Places). keys m) c.self.view_is)

@@ -8,5 +8,5 @@ use Rattle.value_store.proofs.index.Index.len.Goals as goal
 pub returns-clause-len : goal.returns-clause-len
 returns-clause-len c =
     let es = c.self.inside.places.entries in
-    c.len.ensures.len ∙ sym (length-map es placed) ∙ ap length (sym (entries-places_of es c.self.invariant)) ∙ sym (len-entries _)
+    c.len.ensures.len ∙ sym (length-map es placed) ∙ ap length (sym (entries-places_of es c.self.invariant.0)) ∙ sym (len-entries _)
     ∙ ap (λ (m : Places). len m) c.self.view_is

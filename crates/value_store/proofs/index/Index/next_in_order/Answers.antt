@@ -15,7 +15,7 @@ returns-then-past c =
     c.key_of.ensures
     ∙ first-lent c.next.result c.range.result c.next.new.self c.next.ensures.steps
     ∙ next_from es c.range.result from true (λ (e : Entry). is_lt (bytes_cmp from e.0.items) && not false) (λ e. past_test _) (c.range.ensures.between tt)
-    ∙ ap (λ ks. next_of ks from true) (sym (keys-places_of es c.self.invariant) ∙ ap (λ (m : Places). keys m) c.self.view_is)
+    ∙ ap (λ ks. next_of ks from true) (sym (keys-places_of es c.self.invariant.0) ∙ ap (λ (m : Places). keys m) c.self.view_is)
     ∙ ap (λ b. next_of (keys c.args.self.now) from b) (sym c.if-past.true)
 
 pub returns-else-past : goal.returns-else-past
@@ -25,5 +25,5 @@ returns-else-past c =
     c.key_of-else-past.ensures
     ∙ first-lent c.next-else-past.result c.range-else-past.result c.next-else-past.new.self c.next-else-past.ensures.steps
     ∙ next_from es c.range-else-past.result from false (λ (e : Entry). is_le (bytes_cmp from e.0.items) && not false) (λ e. from_test _) (c.range-else-past.ensures.between tt)
-    ∙ ap (λ ks. next_of ks from false) (sym (keys-places_of es c.self.invariant) ∙ ap (λ (m : Places). keys m) c.self.view_is)
+    ∙ ap (λ ks. next_of ks from false) (sym (keys-places_of es c.self.invariant.0) ∙ ap (λ (m : Places). keys m) c.self.view_is)
     ∙ ap (λ b. next_of (keys c.args.self.now) from b) (sym c.if-past.false)
