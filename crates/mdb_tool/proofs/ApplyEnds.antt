@@ -1,5 +1,5 @@
 -- What a run of `apply` promises, by how its opening and its script ended.
-use Rattle.std.proofs.Common.{◌≡◌, ◌≢◌, ℕ, ◌<◌, ◌≤◌, List, length, Option, Some, None, Ok, refl, subst, inr}
+use Rattle.std.proofs.Common.{false, ◌≡◌, ◌≢◌, ℕ, ◌<◌, ◌≤◌, List, length, Option, Some, None, Ok, refl, subst, inr}
 use Rattle.std.specs.Prelude.{IfSome}
 use Rattle.base_model.specs.Faults.{Rose}
 use Rattle.base_model.specs.Streams.{AtEnd}
@@ -19,25 +19,25 @@ use Rattle.script_run.specs.declared.end.SessionEnd.TheVariants as script_end
 use Rattle.script_run.specs.Ends.{end_of, limit_of}
 use Rattle.run_model.specs.Outside.{DiskSeen, Outside}
 use Rattle.run_model.specs.Command.{Apply}
-use Rattle.run_model.specs.End.{End, Done, BadWords, BadLine, NotOpened, Limit, Read, Write, Disk, NoMemory}
+use Rattle.run_model.specs.End.{End, Done, BadWords, BadLine, NotOpened, VerifyRefused, NotHeld, Limit, Read, Write, Disk, NoMemory}
 use Rattle.run_model.specs.Outcome.{PrintsNothing, CameTo, IsComplete}
 use Rattle.run_model.specs.Store.{IsFound, NeedsStore, OnMap, on_found}
 use Rattle.run_model.specs.Script.{HasSteps, ScriptRuns, Keeps as KeepsSteps, Survives, IsStop, end_of_stop}
 use Rattle.run_model.specs.Apply.{apply_outcome, ApplyRuns}
 use Rattle.run_model.specs.Runs.{SharedRuns, InputLimitHasCause}
 use Rattle.mdb_tool.specs.Opening.{KeepsMaps, IsOpen, FailsBy}
-use Rattle.mdb_tool.proofs.Telling.{where_told, always, rose_at_last}
+use Rattle.run_model.proofs.Telling.{where_told, always, rose_at_last}
 use Rattle.mdb_tool.proofs.Openings.{open_keeps}
 use Rattle.mdb_tool.proofs.ScriptsSurvive.{no_step, opening_survives, script_survives}
-use Rattle.mdb_tool.proofs.StoreRuns.{StoreRuns, not_refused, came_to, finished, broke, wanted_memory, cut_off, failed}
+use Rattle.mdb_tool.proofs.StoreRuns.{StoreRuns, own_of, not_refused, came_to, finished, broke, wanted_memory, cut_off, failed}
 
 -- all that a run of `apply` promises
 pub record ApplyPromises (w : ℕ) (before after : Outside) (end : End) : Type 0 where
   pub shared : SharedRuns Apply w before after end
   pub apply : ApplyRuns w before after end
 
-shared_of : (w : ℕ) (before after : Outside) (end : End) → StoreRuns w (apply_outcome w) before after end → SharedRuns Apply w before after end
-shared_of w before after end r = record { words = r.words; read = r.read; write = r.write; disk = r.disk; store = r.store; limit = r.limit; complete = r.complete }
+shared_of : (w : ℕ) (before after : Outside) (end : End) → StoreRuns false w (apply_outcome w) before after end → SharedRuns Apply w before after end
+shared_of w before after end r = record { words = r.words; read = r.read; write = r.write; disk = r.disk; store = r.store; own = own_of Apply r; limit = r.limit; complete = r.complete }
 
 -- ---- no store was opened
 -- an end that no script comes to
@@ -54,6 +54,8 @@ files_stay w before after NoMemory m steps fails found differs = no_step m steps
 files_stay w before after Done m steps fails found differs = absurd fails
 files_stay w before after (BadWords place) m steps fails found differs = absurd fails
 files_stay w before after (BadLine number) m steps fails found differs = absurd fails
+files_stay w before after (VerifyRefused number cause) m steps fails found differs = absurd fails
+files_stay w before after NotHeld m steps fails found differs = absurd fails
 files_stay w before after (Limit kind) m steps fails found differs = absurd fails
 files_stay w before after Read m steps fails found differs = absurd fails
 files_stay w before after Write m steps fails found differs = absurd fails
@@ -140,7 +142,7 @@ past_limit w before mid s after PairsOfCode p is = let no : ⊥ = cc is in absur
 past_limit w before mid s after BatchOfCode p is = let no : ⊥ = cc is in absurd no
 past_limit w before mid s after AnswersOfCode p is = let no : ⊥ = cc is in absurd no
 
-store_runs : (w : ℕ) (before : Outside) (mid : DiskSeen) (s : DbState) (after : Outside) (end : SessionEnd) → Scripted w before mid s after end → StoreRuns w (apply_outcome w) before after (end_of end)
+store_runs : (w : ℕ) (before : Outside) (mid : DiskSeen) (s : DbState) (after : Outside) (end : SessionEnd) → Scripted w before mid s after end → StoreRuns false w (apply_outcome w) before after (end_of end)
 store_runs w before mid s after script_end.Done p = finished w (apply_outcome w) before after (came w before mid s after script_end.Done p (None, refl))
 store_runs w before mid s after (script_end.BadLine number) p = record {
   words = λ i is. let no : ⊥ = cc is in no;
@@ -148,6 +150,8 @@ store_runs w before mid s after (script_end.BadLine number) p = record {
   write = λ is. let no : ⊥ = cc is in absurd no;
   disk = λ is. let no : ⊥ = cc is in absurd no;
   store = λ why is. let no : ⊥ = cc is in absurd no;
+  held = λ is. let no : ⊥ = cc is in absurd no;
+  accepted = λ number cause is. let no : ⊥ = cc is in no;
   limit = λ is. let no : ⊥ = cc is in absurd no;
   complete = came w before mid s after (script_end.BadLine number) p (Some (stopped_by_line number), refl);
 }
@@ -157,6 +161,8 @@ store_runs w before mid s after (script_end.Limit kind) p = record {
   write = λ is. let no : ⊥ = cc is in absurd no;
   disk = λ is. let no : ⊥ = cc is in absurd no;
   store = λ why is. let no : ⊥ = cc is in absurd no;
+  held = λ is. let no : ⊥ = cc is in absurd no;
+  accepted = λ number cause is. let no : ⊥ = cc is in no;
   limit = past_limit w before mid s after kind p;
   complete = came w before mid s after (script_end.Limit kind) p (Some (stopped_by_limit (limit_of kind)), refl);
 }
@@ -167,6 +173,8 @@ store_runs w before mid s after script_end.Read p = record {
   write = λ is. let no : ⊥ = cc is in absurd no;
   disk = λ is. let no : ⊥ = cc is in absurd no;
   store = λ why is. let no : ⊥ = cc is in absurd no;
+  held = λ is. let no : ⊥ = cc is in absurd no;
+  accepted = λ number cause is. let no : ⊥ = cc is in no;
   limit = λ is. let no : ⊥ = cc is in absurd no;
   complete = λ quiet _. absurd (quiet (p.read refl));
 }

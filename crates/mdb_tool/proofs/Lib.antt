@@ -1,10 +1,8 @@
 pub mod ReadingOfLines
-pub mod UsedBytes
-pub mod Telling
 pub mod RootEnds
 pub mod Openings
 pub mod StoreRuns
-pub mod GetEnds
+pub mod ReadEnds
 pub mod ScriptsSurvive
 pub mod ApplyEnds
 pub mod RunParts

@@ -14,12 +14,15 @@ use Rattle.mdb_core.specs.Opens.{OpenFails}
 use Rattle.mdb_core.specs.Places.{GetFails}
 use Rattle.mdb_core.specs.declared.store.At.TheVariants.{Store}
 use Rattle.mdb_core.specs.declared.fault.DbFault.{DbFault}
-use Rattle.mdb_core.specs.declared.fault.DbFault.TheVariants.{Disk, NotAStore, BranchDiffers, Damaged, Failed, Unknown, NotLive, TooMany, TooDeep, TooHeavy, TooLarge, NotParent, Full, NoMemory}
+use Rattle.mdb_core.specs.declared.fault.DbFault.TheVariants.{Disk, NotAStore, BranchDiffers, Damaged, Failed, Unknown, NotLive, NotHeld, TooMany, TooDeep, TooHeavy, TooLarge, NotParent, Full, NoMemory}
 use Rattle.mdb_core.proofs.KeptStores.{kept_stands}
 use Rattle.run_model.specs.Outside.{DiskSeen}
-use Rattle.mdb_tool.specs.Ends.{end_of_fault}
+use Rattle.run_model.specs.End.{NoMemory as NoMemoryEnd}
+use Rattle.script_run.specs.declared.end.SessionEnd.{SessionEnd}
+use Rattle.script_run.specs.declared.end.SessionEnd.TheVariants as ends
+use Rattle.mdb_tool.specs.Ends.{end_of_fault, end_of_reading}
 use Rattle.mdb_tool.specs.Opening.{KeepsMaps, IsOpen, FailsBy}
-use Rattle.mdb_tool.proofs.Telling.{rose_at_last}
+use Rattle.run_model.proofs.Telling.{rose_at_last}
 
 -- why no store was opened
 pub opening_fails : (w : ℕ) (before after : DiskSeen) (fault : DbFault) → (TellsContents before.tells → OpenFails w before.files fault) → (fault ≡ Disk → Rose before.faults after.faults)
@@ -30,6 +33,7 @@ opening_fails w before after (BranchDiffers asked given) refused rose kept = ref
 opening_fails w before after (Damaged file at) refused rose kept = refused
 opening_fails w before after NoMemory refused rose kept = kept refl
 opening_fails w before after Failed refused rose kept = λ told m stands. absurd (refused told)
+opening_fails w before after NotHeld refused rose kept = λ told m stands. absurd (refused told)
 opening_fails w before after Unknown refused rose kept = λ told m stands. absurd (refused told)
 opening_fails w before after (NotLive state) refused rose kept = λ told m stands. absurd (refused told)
 opening_fails w before after TooMany refused rose kept = λ told m stands. absurd (refused told)
@@ -57,13 +61,14 @@ pub untouched_keeps : (before mid after : DiskSeen) → KeepsMaps before mid →
 untouched_keeps before mid after keeps u = λ told m stands. subst (λ now. Opens limits m before.moments now) (sym u.images) (keeps told m stands)
 
 -- why a key of the store is not read
-pub store_fails : (s : DbState) (fault : DbFault) → is_failed s ≡ false → GetFails s Store fault → (fault ≡ Disk) ⊎ (fault ≡ NoMemory)
+pub store_fails : (s : DbState) (fault : DbFault) → is_failed s ≡ false → GetFails s Store fault → (fault ≡ Disk) ⊎ (end_of_fault fault ≡ NoMemoryEnd)
 store_fails s Disk works why = inl refl
 store_fails s NoMemory works why = inr refl
 store_fails s Failed works why = let no : ⊥ = cc (sym works ∙ why) in absurd no
 store_fails s (NotAStore file) works why = let no : ⊥ = cc why.2 in absurd no
 store_fails s (BranchDiffers kept asked) works why = let no : ⊥ = cc why.2 in absurd no
 store_fails s (Damaged file at) works why = let no : ⊥ = cc why.2 in absurd no
+store_fails s NotHeld works why = inr refl
 store_fails s Unknown works why = let no : ⊥ = cc why.2 in absurd no
 store_fails s (NotLive state) works why = let no : ⊥ = cc why.2 in absurd no
 store_fails s TooMany works why = let no : ⊥ = cc why.2 in absurd no
@@ -75,8 +80,16 @@ store_fails s Full works why = let no : ⊥ = cc why.2 in absurd no
 
 -- a look-up that fails
 pub look_up_fails : (w : ℕ) (before mid after : DiskSeen) (s : DbState) (fault : DbFault) → IsOpen w before mid s → before.faults ≤ mid.faults → Untouched mid.files after.files mid.moments after.moments
-    → (fault ≡ Disk) ⊎ (fault ≡ NoMemory) → (fault ≡ Disk → Rose mid.faults after.faults) → FailsBy w before after (end_of_fault fault)
+    → (fault ≡ Disk) ⊎ (end_of_fault fault ≡ NoMemoryEnd) → (fault ≡ Disk → Rose mid.faults after.faults) → FailsBy w before after (end_of_fault fault)
 look_up_fails w before mid after s fault o later u (inl disk) rose =
     subst (λ f. FailsBy w before after (end_of_fault f)) (sym disk) (rose_at_last before.faults mid.faults after.faults later (rose disk))
 look_up_fails w before mid after s fault o later u (inr memory) rose =
-    subst (λ f. FailsBy w before after (end_of_fault f)) (sym memory) (λ told m stands. untouched_stands mid.files after.files mid.moments after.moments m u (open_stands w before mid s o told m stands))
+    subst (FailsBy w before after) (sym memory) (λ told m stands. untouched_stands mid.files after.files mid.moments after.moments m u (open_stands w before mid s o told m stands))
+
+-- a proof that is not made
+pub reading_fails : (w : ℕ) (before mid after : DiskSeen) (s : DbState) (end : SessionEnd) → IsOpen w before mid s → before.faults ≤ mid.faults → Untouched mid.files after.files mid.moments after.moments
+    → (end ≡ ends.NoMemory) ⊎ ((end ≡ ends.Disk) × Rose mid.faults after.faults) → FailsBy w before after (end_of_reading end)
+reading_fails w before mid after s end o later u (inl memory) =
+    subst (λ e. FailsBy w before after (end_of_reading e)) (sym memory) (λ told m stands. untouched_stands mid.files after.files mid.moments after.moments m u (open_stands w before mid s o told m stands))
+reading_fails w before mid after s end o later u (inr lost) =
+    subst (λ e. FailsBy w before after (end_of_reading e)) (sym lost.0) (rose_at_last before.faults mid.faults after.faults later lost.1)

@@ -4,7 +4,7 @@ use Rattle.std.specs.Prelude.{IfOk}
 use Rattle.run_model.specs.Outside.{OutputSeen}
 use Rattle.run_model.specs.End.{Done as DoneEnd, end_number}
 use Rattle.mdb_tool.specs.declared.status.Status.{Status}
-use Rattle.mdb_tool.specs.declared.status.Status.TheVariants.{Done, BadWords, BadLine, NotAStore, BranchDiffers, Damaged, Limit, Read, Write, Disk, NoMemory}
+use Rattle.mdb_tool.specs.declared.status.Status.TheVariants.{Done, BadWords, BadLine, NotAStore, BranchDiffers, Damaged, VerifyRefused, NotHeld, Limit, Read, Write, Disk, NoMemory}
 use Rattle.mdb_tool.specs.Ends.{end_of}
 use Rattle.mdb_tool.specs.Process.{TellsEnd, EndsBy}
 
@@ -20,6 +20,8 @@ done_status (BadLine number) is = let no : ⊥ = cc is in absurd no
 done_status (NotAStore file) is = let no : ⊥ = cc is in absurd no
 done_status (BranchDiffers kept asked) is = let no : ⊥ = cc is in absurd no
 done_status (Damaged file at) is = let no : ⊥ = cc is in absurd no
+done_status (VerifyRefused line cause) is = let no : ⊥ = cc is in absurd no
+done_status NotHeld is = let no : ⊥ = cc is in absurd no
 done_status (Limit kind) is = let no : ⊥ = cc is in absurd no
 done_status Read is = let no : ⊥ = cc is in absurd no
 done_status Write is = let no : ⊥ = cc is in absurd no

@@ -20,7 +20,7 @@ use Rattle.run_model.specs.Runs.{SharedRuns, CommandNeeds, command_outcome}
 use Rattle.mdb_tool.specs.declared.map_lines.MapFault.{MapFault}
 use Rattle.mdb_tool.specs.declared.map_lines.MapFault.TheVariants.{Line as AtLine, Read as AtRead, Limit as AtLimit, NoMemory as AtMemory}
 use Rattle.mdb_tool.specs.Ends.{end_of}
-use Rattle.mdb_tool.proofs.Telling.{where_told, always, whole}
+use Rattle.run_model.proofs.Telling.{where_told, always, whole}
 use Rattle.mdb_tool.specs.MapLines.{MakesMap, Makes, FirstBad, IsPastLimit, GoodSoFar, status_of_fault}
 
 -- all that a run of `root` promises
@@ -91,6 +91,7 @@ at_line w before after n bad printed kept =
         write = λ is. let no : ⊥ = cc is in absurd no;
         disk = λ is. let no : ⊥ = cc is in absurd no;
         store = λ why is. let no : ⊥ = cc is in absurd no;
+        own = record { held = λ is. let no : ⊥ = cc is in absurd no; accepted = λ number cause is. let no : ⊥ = cc is in absurd no };
         limit = λ is. let no : ⊥ = cc is in absurd no;
         complete = came w before after (silent (BadLine n)) comes printed;
       };
@@ -118,6 +119,7 @@ at_limit w before after long printed kept =
         write = λ is. let no : ⊥ = cc is in absurd no;
         disk = λ is. let no : ⊥ = cc is in absurd no;
         store = λ why is. let no : ⊥ = cc is in absurd no;
+        own = record { held = λ is. let no : ⊥ = cc is in absurd no; accepted = λ number cause is. let no : ⊥ = cc is in absurd no };
         limit = λ _. where_told (λ bytes. (input_limit < length bytes) × (bad_line (lines_within input_limit bytes) ≡ None)) (λ bytes. input_limit < length bytes) before.input.left (λ bytes h. h.0) long;
         complete = came w before after (silent (Limit Input)) comes printed;
       };
@@ -142,6 +144,7 @@ at_read w before after rose open_still printed kept = record {
     write = λ is. let no : ⊥ = cc is in absurd no;
     disk = λ is. let no : ⊥ = cc is in absurd no;
     store = λ why is. let no : ⊥ = cc is in absurd no;
+    own = record { held = λ is. let no : ⊥ = cc is in absurd no; accepted = λ number cause is. let no : ⊥ = cc is in absurd no };
     limit = λ is. let no : ⊥ = cc is in absurd no;
     complete = λ quiet _. absurd (quiet rose);
   };
@@ -166,6 +169,7 @@ at_memory w before after printed kept = record {
     write = λ is. let no : ⊥ = cc is in absurd no;
     disk = λ is. let no : ⊥ = cc is in absurd no;
     store = λ why is. let no : ⊥ = cc is in absurd no;
+    own = record { held = λ is. let no : ⊥ = cc is in absurd no; accepted = λ number cause is. let no : ⊥ = cc is in absurd no };
     limit = λ is. let no : ⊥ = cc is in absurd no;
     complete = λ _ _. always (λ bytes. (found : Result Map Refusal) → CommandNeeds Root w before after found → CameTo (root_outcome w bytes) before after NoMemory) before.input.left (λ bytes found _. inl refl);
   };
@@ -217,6 +221,7 @@ printed_all w before after text comes end printed kept =
         write = λ is. let no : ⊥ = cc is in absurd no;
         disk = λ is. let no : ⊥ = cc is in absurd no;
         store = λ why is. let no : ⊥ = cc is in absurd no;
+        own = record { held = λ is. let no : ⊥ = cc is in absurd no; accepted = λ number cause is. let no : ⊥ = cc is in absurd no };
         limit = λ is. let no : ⊥ = cc is in absurd no;
         complete = came w before after o comes printed;
       };
@@ -244,6 +249,7 @@ printed_part w before after text comes rose printed kept =
         write = λ _. rose;
         disk = λ is. let no : ⊥ = cc is in absurd no;
         store = λ why is. let no : ⊥ = cc is in absurd no;
+        own = record { held = λ is. let no : ⊥ = cc is in absurd no; accepted = λ number cause is. let no : ⊥ = cc is in absurd no };
         limit = λ is. let no : ⊥ = cc is in absurd no;
         complete = λ _ quiet. absurd (quiet rose);
       };

@@ -4,5 +4,5 @@ pub mod MapLines
 pub mod Asked
 pub mod Folder
 pub mod Opening
-pub mod Get
+pub mod Finding
 pub mod Process

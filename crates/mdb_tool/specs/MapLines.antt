@@ -6,9 +6,10 @@ use Rattle.mdb_tool.specs.declared.map_lines.MapFault.TheVariants.{Line as AtLin
 use Rattle.mdb_tool.specs.declared.status.Status.{Status}
 use Rattle.mdb_tool.specs.declared.status.Status.TheVariants.{BadLine, Limit, Read, NoMemory}
 use Rattle.trie_model.specs.Maps.{Map, map_digests}
-use Rattle.text_model.specs.Lines.{input_limit, settled_lines, lines_within}
-use Rattle.text_model.specs.ReadLine.{Batch, Line, read_line}
+use Rattle.text_model.specs.Lines.{input_limit, lines_within}
+use Rattle.text_model.specs.ReadLine.{Batch, Line, read_line, is_line}
 use Rattle.text_model.specs.MapOfLines.{after_line, map_of_lines, bad_line}
+use Rattle.batch_text.specs.PassedLines.{PassSoFar}
 
 -- a line was read, and laid on the digests of a map
 pub record Lays (line : List ℕ) (old new : List (List ℕ × List ℕ)) : Type 0 where
@@ -35,7 +36,7 @@ IsPastLimit left = IfSome left (λ bytes. (input_limit < length bytes) × (bad_l
 
 -- the bytes that the source gave are within the limit, and every line that they settle is in the grammar
 abbrev pub GoodSoFar : (left left' : Option (List ℕ)) → Type 0
-GoodSoFar left left' = IfSome left (λ bytes. IfSome left' (λ rest. (given : List ℕ) × (bytes ≡ given ++ rest) × (length given ≤ input_limit) × (bad_line (settled_lines given) ≡ None)))
+GoodSoFar left left' = PassSoFar (is_line Batch) left left'
 
 -- the status with which a run ends where its lines make no map
 abbrev pub status_of_fault : MapFault → Status

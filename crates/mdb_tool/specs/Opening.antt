@@ -12,7 +12,7 @@ use Rattle.mdb_journal.specs.Moves.{AreSynced}
 use Rattle.mdb_core.specs.Stores.{DbState, is_failed}
 use Rattle.mdb_core.specs.Opens.{Opened}
 use Rattle.run_model.specs.Outside.{DiskSeen}
-use Rattle.run_model.specs.End.{End, Done, BadWords, BadLine, NotOpened, Limit, Read, Write, Disk, NoMemory}
+use Rattle.run_model.specs.End.{End, Done, BadWords, BadLine, NotOpened, VerifyRefused, NotHeld, Limit, Read, Write, Disk, NoMemory}
 
 -- what a crash leaves while the store of any map is opened
 abbrev pub KeepsMaps : DiskSeen → DiskSeen → Type 0
@@ -35,6 +35,8 @@ FailsBy w before after NoMemory = TellsContents before.tells → (m : Map) → S
 FailsBy w before after Done = ⊥
 FailsBy w before after (BadWords place) = ⊥
 FailsBy w before after (BadLine number) = ⊥
+FailsBy w before after (VerifyRefused number cause) = ⊥
+FailsBy w before after NotHeld = ⊥
 FailsBy w before after (Limit kind) = ⊥
 FailsBy w before after Read = ⊥
 FailsBy w before after Write = ⊥

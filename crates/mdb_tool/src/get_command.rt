@@ -1,6 +1,5 @@
 // The command `get`: the value of a key in a store.
-ghost use Rattle.std.specs.Prelude.{◌≡◌, ◌≤◌, ℕ, List, Option, IfOk, IfErr, option_map, string_bytes};
-ghost use Rattle.text_model.specs.Texts.{value_text};
+ghost use Rattle.std.specs.Prelude.{◌≤◌, ℕ, List, Option, IfOk, IfErr, option_map};
 ghost use Rattle.bit_keys.specs.Branch.{width_of};
 ghost use Rattle.run_model.specs.Outside.{outside, disk_seen};
 ghost use Rattle.run_model.specs.Command.{Get};
@@ -8,29 +7,16 @@ ghost use Rattle.run_model.specs.Get.{GetRuns};
 ghost use Rattle.run_model.specs.Runs.{SharedRuns};
 ghost use Rattle.mdb_tool.specs.Ends.{end_of};
 ghost use Rattle.mdb_tool.specs.Opening.{KeepsMaps, FailsBy};
-ghost use Rattle.mdb_tool.specs.Get.{IsValue};
+ghost use Rattle.mdb_tool.specs.Finding.{Finds, IsValueAt};
 
 use crate::opening::{open_store, status_of_fault};
 use crate::status::Status;
 use bit_keys::Branch;
 use disk_world::Disk;
-use mdb_base::{NoMemory, Sink, write_all};
+use mdb_base::{Sink, write_all};
 use mdb_core::At;
+use script_run::value_line;
 use std::alloc::Global;
-
-// The line that is printed. A value of no bytes is a dash.
-fn line_of_value(alloc: Global, value: &Option<Vec<u8>>) -> Result<String, NoMemory>
-    ensures { IfOk result (λ text. string_bytes text ≡ value_text (option_map (λ v. v.items) value.now)) }
-{
-    let Some(value) = value else {
-        return Ok(String::from_str(alloc, "none\n")?);
-    };
-    if value.is_empty() {
-        return Ok(String::from_str(alloc, "value -\n")?);
-    }
-    let digits = hex::encode(alloc, value.as_slice())?;
-    Ok(format!(in alloc; "value {digits}\n")?)
-}
 
 // The value of a key in the store of a disk.
 fn look_up<D: Disk>(
@@ -39,7 +25,7 @@ fn look_up<D: Disk>(
     key: &[u8],
     disk: &mut D,
 ) -> Result<Option<Vec<u8>>, Status>
-    ensures found { IfOk result (λ value. IsValue key.now (width_of branch) (disk_seen D.words disk.old) (disk_seen D.words disk.new) (option_map (λ v. v.items) value)) }
+    ensures found { IfOk result (λ value. Finds (IsValueAt key.now (option_map (λ v. v.items) value)) (width_of branch) (disk_seen D.words disk.old) (disk_seen D.words disk.new)) }
     ensures fails { IfErr result (λ status. FailsBy (width_of branch) (disk_seen D.words disk.old) (disk_seen D.words disk.new) (end_of status)) }
     ensures opens { KeepsMaps (disk_seen D.words disk.old) (disk_seen D.words disk.new) }
     ensures later { D.words.faults disk.old ≤ D.words.faults disk.new }
@@ -78,7 +64,7 @@ pub(crate) fn run_get<K: Sink, D: Disk>(
         Ok(value) => value,
         Err(status) => return status,
     };
-    let Ok(line) = line_of_value(alloc, &value) else {
+    let Ok(line) = value_line(alloc, &value) else {
         return Status::NoMemory;
     };
     match write_all(out, line.as_bytes()) {

@@ -14,7 +14,8 @@ FOLDER is a folder that is there, or - where the command uses none. Where a run 
 failed, look whether the folder is there, whether you may write in it, and whether there is room.
 
 FACTOR is 2, 4, 16 or 256, the most children that a node of the trie may have.
-KEY and VALUE are hexadecimal digits, or - for no bytes.
+KEY, VALUE and PROOF are hexadecimal digits, or - for no bytes.
+ROOT is 64 hexadecimal digits, now for the store as it is, ~0 for the same, or empty.
 
 commands:
   root FACTOR      reads lines from standard input and prints the root of the map that they make
@@ -30,9 +31,16 @@ commands:
                           state N           tells how the view N stands      state N STATE
                           get PLACE KEY     tells what is at KEY             value VALUE, or none
                           root PLACE        tells the root                   root ROOT
+                          prove ROOT KEY    proves what is at KEY            proof PROOF
                           # a comment
                    what is pending at the end is committed too; PLACE is db, the store, or a view's N
   get FACTOR KEY   prints the value of KEY in the store: value VALUE, or none
+  prove FACTOR ROOT KEY
+                   prints the proof of what the map with that root has at KEY: proof PROOF
+  verify FACTOR    checks the proofs of standard input, each against the root that stands in its line;
+                   it needs no store, and prints ok and how many pairs a proof shows
+                   lines: point ROOT KEY PROOF    # a comment
+                   ROOT is 64 digits here, or empty; at a proof that is refused it ends
 
 examples:
   echo 'put 6b 76' | mdb - root 16

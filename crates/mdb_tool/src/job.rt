@@ -1,10 +1,11 @@
 // The words of the command line.
-ghost use Rattle.std.specs.Prelude.{◌≡◌, ℕ, List, Result, Some, Err, IfOk, IfErr, map, option_map, string_bytes};
-ghost use Rattle.run_model.specs.Command.{Command as ModelCommand, Job as ModelJob, job_of, job_words, job_with, no_words, get_words, in_folder as in_folder_of, factor_word};
+ghost use Rattle.std.specs.Prelude.{◌≡◌, ◌<◌, ℕ, List, Result, Some, Ok, Err, IfOk, IfErr, map, option_map, string_bytes};
+ghost use Rattle.run_model.specs.Command.{Command as ModelCommand, Job as ModelJob, job_of, job_words, job_with, no_words, key_words, get_words, prove_words, in_folder as in_folder_of, factor_word};
 ghost use Rattle.bit_keys.specs.Branch.{width_of};
+ghost use Rattle.batch_text.specs.SeenLine.{seen_root};
 ghost use Rattle.mdb_tool.specs.ReadJob.{AreRead, seen_command, seen_job};
 
-use batch_text::{KeyWord, read_key_word};
+use batch_text::{KeyWord, RootWord, read_key_word, read_root_word};
 use bit_keys::Branch;
 
 /// A command, with what its own words say.
@@ -16,6 +17,10 @@ pub(crate) enum Command {
     Apply,
     /// The value of a key in a store.
     Get(KeyWord),
+    /// The proof of a key, in the map of a store that a root names.
+    Prove(RootWord, KeyWord),
+    /// Whether the proofs of the input are accepted.
+    Verify,
 }
 
 /// What the words ask for.
@@ -66,18 +71,42 @@ fn read_none(command: Command, words: &[String]) -> Result<Command, usize>
     }
 }
 
+// A key at this place, and no word behind it.
+fn read_key(words: &[String], place: usize) -> Result<KeyWord, usize>
+    requires { place < 100 }
+    ensures ok { IfOk result (λ key. (command : List ℕ → ModelCommand) → key_words place command (map string_bytes words.now) ≡ Ok (command key)) }
+    ensures err { IfErr result (λ wrong. (command : List ℕ → ModelCommand) → key_words place command (map string_bytes words.now) ≡ Err wrong) }
+{
+    let Some((word, others)) = words.split_first() else {
+        return Err(place);
+    };
+    match read_key_word(word.as_bytes()) {
+        Some(key) if others.is_empty() => Ok(key),
+        Some(_) => Err(place + 1),
+        None => Err(place),
+    }
+}
+
 // The words of `get`: a key.
 fn read_get(words: &[String]) -> Result<Command, usize>
     ensures { AreRead seen_command result (get_words (map string_bytes words.now)) }
 {
+    let key = read_key(words, 4)?;
+    Ok(Command::Get(key))
+}
+
+// The words of `prove`: a root and a key.
+fn read_prove(words: &[String]) -> Result<Command, usize>
+    ensures { AreRead seen_command result (prove_words (map string_bytes words.now)) }
+{
     let Some((word, others)) = words.split_first() else {
         return Err(4);
     };
-    match read_key_word(word.as_bytes()) {
-        Some(key) if others.is_empty() => Ok(Command::Get(key)),
-        Some(_) => Err(5),
-        None => Err(4),
-    }
+    let Some(root) = read_root_word(word.as_bytes()) else {
+        return Err(4);
+    };
+    let key = read_key(others, 5)?;
+    Ok(Command::Prove(root, key))
 }
 
 // The job of a command without words of its own, by the words behind the command.
@@ -95,6 +124,15 @@ fn read_get_job(words: &[String]) -> Result<Job, usize>
 {
     let (branch, own) = read_branch(words)?;
     let command = read_get(own)?;
+    Ok(Job { branch, command })
+}
+
+// The job of `prove`, by the words behind the command.
+fn read_prove_job(words: &[String]) -> Result<Job, usize>
+    ensures { AreRead seen_job result (job_words prove_words (map string_bytes words.now)) }
+{
+    let (branch, own) = read_branch(words)?;
+    let command = read_prove(own)?;
     Ok(Job { branch, command })
 }
 
@@ -119,6 +157,8 @@ pub(crate) fn read_words(words: &[String]) -> Result<Job, usize>
         "root" => read_plain_job(Command::Root, words),
         "apply" => in_folder(folder.as_str(), read_plain_job(Command::Apply, words)),
         "get" => in_folder(folder.as_str(), read_get_job(words)),
+        "prove" => in_folder(folder.as_str(), read_prove_job(words)),
+        "verify" => read_plain_job(Command::Verify, words),
         _ => Err(2),
     }
 }

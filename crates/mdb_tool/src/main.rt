@@ -15,10 +15,12 @@ mod map_lines;
 mod opening;
 mod process;
 pub mod program;
+mod prove_command;
 mod root_command;
 pub mod status;
 #[cfg(test)]
 mod tests;
+mod verify_command;
 
 use command_line::{read_command_line, with_folder};
 use process::carry_out;

@@ -57,7 +57,9 @@ fn lay_line(digests: &mut Digests, line: Line) -> Result<(), NoMemory>
         | Line::Close { .. }
         | Line::State { .. }
         | Line::Get { .. }
-        | Line::Root { .. } => Ok(()),
+        | Line::Root { .. }
+        | Line::Prove { .. }
+        | Line::Point { .. } => Ok(()),
         Line::Put { key, value } => digests.put(key, value_digest(&value)),
         Line::Del { key } => {
             digests.remove(&key);

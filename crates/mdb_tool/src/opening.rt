@@ -32,6 +32,7 @@ pub(crate) fn status_of_fault(fault: DbFault) -> Status
         DbFault::Failed
         | DbFault::Unknown
         | DbFault::NotLive(_)
+        | DbFault::NotHeld
         | DbFault::TooMany
         | DbFault::TooDeep
         | DbFault::TooHeavy

@@ -2,7 +2,7 @@
 ghost use Rattle.std.specs.Prelude.{map, string_bytes};
 ghost use Rattle.run_model.specs.Outside.{outside, disk_seen};
 ghost use Rattle.run_model.specs.Outcome.{IsComplete};
-ghost use Rattle.run_model.specs.Runs.{outcome, Needs, command_runs, TellsWords, WordsTouchNothing, ReadHasCause, WriteHasCause, DiskHasCause, StoreHasCause, InputLimitHasCause, SharedRuns, RootPart, ApplyPart, GetPart};
+ghost use Rattle.run_model.specs.Runs.{outcome, Needs, command_runs, TellsWords, WordsTouchNothing, ReadHasCause, WriteHasCause, DiskHasCause, StoreHasCause, InputLimitHasCause, TellsOwn, SharedRuns, RootPart, ApplyPart, GetPart, ProvePart, VerifyPart};
 ghost use Rattle.bit_keys.specs.Branch.{width_of};
 ghost use Rattle.mdb_tool.specs.Ends.{end_of};
 ghost use Rattle.mdb_tool.specs.ReadJob.{seen_command};
@@ -10,8 +10,10 @@ ghost use Rattle.mdb_tool.specs.ReadJob.{seen_command};
 use crate::apply_command::run_apply;
 use crate::get_command::run_get;
 use crate::job::{Command, Job, read_words};
+use crate::prove_command::run_prove;
 use crate::root_command::run_root;
 use crate::status::Status;
+use crate::verify_command::run_verify;
 use disk_world::Disk;
 use mdb_base::{Sink, Source};
 use std::alloc::Global;
@@ -38,6 +40,7 @@ pub fn run<S: Source, K: Sink, D: Disk>(
     ensures write { WriteHasCause (K.faults out.old) (K.faults out.new) (end_of result) }
     ensures disk { DiskHasCause (D.words.faults disk.old) (D.words.faults disk.new) (end_of result) }
     ensures store { StoreHasCause (map string_bytes words.now) (disk_seen D.words disk.old) (end_of result) }
+    ensures own { TellsOwn (map string_bytes words.now) (end_of result) }
     ensures limit { InputLimitHasCause (S.left input.old) (end_of result) }
 
     // Where nothing outside fails, the run comes to its outcome, or memory ran out.
@@ -56,6 +59,12 @@ pub fn run<S: Source, K: Sink, D: Disk>(
     ensures get { let before = outside (S.left input.old) (S.faults input.old) (K.taken out.old) (K.faults out.old) (disk_seen D.words disk.old) in
         let after = outside (S.left input.new) (S.faults input.new) (K.taken out.new) (K.faults out.new) (disk_seen D.words disk.new) in
         GetPart (map string_bytes words.now) before after (end_of result) }
+    ensures prove { let before = outside (S.left input.old) (S.faults input.old) (K.taken out.old) (K.faults out.old) (disk_seen D.words disk.old) in
+        let after = outside (S.left input.new) (S.faults input.new) (K.taken out.new) (K.faults out.new) (disk_seen D.words disk.new) in
+        ProvePart (map string_bytes words.now) before after (end_of result) }
+    ensures verify { let before = outside (S.left input.old) (S.faults input.old) (K.taken out.old) (K.faults out.old) (disk_seen D.words disk.old) in
+        let after = outside (S.left input.new) (S.faults input.new) (K.taken out.new) (K.faults out.new) (disk_seen D.words disk.new) in
+        VerifyPart (map string_bytes words.now) before after (end_of result) }
 {
     match read_words(words) {
         Ok(job) => run_job(alloc, job, input, out, disk),
@@ -83,5 +92,7 @@ fn run_job<S: Source, K: Sink, D: Disk>(
         Command::Root => run_root(alloc, branch, input, out),
         Command::Apply => run_apply(alloc, branch, input, out, disk),
         Command::Get(key) => run_get(alloc, branch, key.as_slice(), out, disk),
+        Command::Prove(root, key) => run_prove(alloc, branch, root, key.as_slice(), out, disk),
+        Command::Verify => run_verify(alloc, branch, input, out),
     }
 }

@@ -1,12 +1,16 @@
 // How a run ends.
 ghost use Rattle.std.specs.Prelude.{◌≡◌, IfOk, string_bytes};
 ghost use Rattle.run_model.specs.End.{end_text, end_number};
-ghost use Rattle.text_model.specs.Texts.{limit_word, no_store_text, branch_text, damaged_text};
+ghost use Rattle.text_model.specs.Texts.{limit_word, proof_refused_text, no_store_text, branch_text, damaged_text};
+ghost use Rattle.proof_model.specs.CauseWords.{cause_words};
+ghost use Rattle.proof_check.specs.Refused.{seen_cause};
 ghost use Rattle.script_run.specs.Ends.{limit_of};
 ghost use Rattle.mdb_tool.specs.Ends.{end_of};
 
 use mdb_base::{LimitKind, NoMemory};
+use proof_check::Refusal;
 use std::alloc::Global;
+use verify_run::cause_text;
 
 /// How a run ends. The process ends with its number.
 #[derive(Clone, Copy, Debug, PartialEq, Eq)]
@@ -24,6 +28,10 @@ pub enum Status {
     BranchDiffers { kept: u16, asked: u16 },
     /// The file of this number is outside the format of stores, at this place.
     Damaged { file: u8, at: u64 },
+    /// The proof of this line, counted from 1, is the first that is refused.
+    VerifyRefused { line: u64, cause: Refusal },
+    /// The store has no map that the root names.
+    NotHeld,
     /// A count reached its limit.
     Limit(LimitKind),
     /// The input could not be read.
@@ -69,6 +77,14 @@ fn damaged_line(alloc: Global, file: u8, at: u64) -> Result<String, NoMemory>
     Ok(format!(in alloc; "mdb: file {file} is damaged at {at}")?)
 }
 
+// The line of a proof that is refused.
+fn proof_refused_line(alloc: Global, line: u64, cause: &Refusal) -> Result<String, NoMemory>
+    ensures { IfOk result (λ text. string_bytes text ≡ proof_refused_text line (cause_words (seen_cause cause.now))) }
+{
+    let why = cause_text(alloc, cause)?;
+    Ok(format!(in alloc; "mdb: line {line} refused, {why}")?)
+}
+
 /// The line that tells of a status, without its end.
 pub fn status_line(alloc: Global, status: &Status) -> Result<String, NoMemory>
     ensures { IfOk result (λ text. string_bytes text ≡ end_text (end_of status.now)) }
@@ -86,6 +102,8 @@ pub fn status_line(alloc: Global, status: &Status) -> Result<String, NoMemory>
         Status::NotAStore(file) => no_store_line(alloc, *file)?,
         Status::BranchDiffers { kept, asked } => branch_line(alloc, *kept, *asked)?,
         Status::Damaged { file, at } => damaged_line(alloc, *file, *at)?,
+        Status::VerifyRefused { line, cause } => proof_refused_line(alloc, *line, cause)?,
+        Status::NotHeld => String::from_str(alloc, "mdb: root not held")?,
         Status::Limit(kind) => {
             let name = limit_name(*kind);
             format!(in alloc; "mdb: limit {name}")?
@@ -107,6 +125,8 @@ pub fn status_number(status: &Status) -> u8
         Status::BadWords(_) => 2,
         Status::BadLine(_) => 3,
         Status::NotAStore(_) | Status::BranchDiffers { .. } | Status::Damaged { .. } => 4,
+        Status::VerifyRefused { .. } => 5,
+        Status::NotHeld => 6,
         Status::Limit(_) => 10,
         Status::Read => 20,
         Status::Write => 21,

@@ -2,6 +2,7 @@ use crate::program::run;
 use crate::status::{Status, status_line, status_number};
 use mdb_base::{LimitKind, MemSink, MemSource};
 use mem_world::MemDisk;
+use proof_check::{Refusal, VerifyFault};
 use std::alloc::Global;
 use std::process::Abort;
 use std::test::Fail;
@@ -178,7 +179,8 @@ fn roots_are_the_hashes_of_their_strings(rt: HostRuntime) -> Result<(), Fail> {
 #[test]
 fn what_is_not_understood_is_told_by_its_place(rt: HostRuntime) -> Result<(), Fail> {
     let root: &[&str] = &["-", "root", "16"];
-    let rows: [(&[&str], &[u8], Status); 24] = [
+    let verify: &[&str] = &["-", "verify", "16"];
+    let rows: [(&[&str], &[u8], Status); 34] = [
         // Words come first.
         (&[], b"x", Status::BadWords(1)),
         (&["-"], b"x", Status::BadWords(2)),
@@ -199,7 +201,34 @@ fn what_is_not_understood_is_told_by_its_place(rt: HostRuntime) -> Result<(), Fa
         (&["D", "get", "16", "0x6b"], b"x", Status::BadWords(4)),
         (&["D", "get", "16", "zz", "6b"], b"x", Status::BadWords(4)),
         (&["D", "get", "16", "6b", "6b"], b"x", Status::BadWords(5)),
+        // `prove` has a root and a key, and `verify` no words of its own.
+        (
+            &["-", "prove", "16", "now", "6b"],
+            b"x",
+            Status::BadWords(1),
+        ),
+        (&["D", "prove", "16"], b"x", Status::BadWords(4)),
+        (&["D", "prove", "16", "Now", "6"], b"x", Status::BadWords(4)),
+        (
+            &["D", "prove", "16", "~01", "6b"],
+            b"x",
+            Status::BadWords(4),
+        ),
+        (&["D", "prove", "16", "~1"], b"x", Status::BadWords(5)),
+        (
+            &["D", "prove", "16", "empty", "6"],
+            b"x",
+            Status::BadWords(5),
+        ),
+        (
+            &["D", "prove", "16", "now", "-", "6b"],
+            b"x",
+            Status::BadWords(6),
+        ),
+        (&["-", "verify", "16", "now"], b"x", Status::BadWords(4)),
         // Then lines.
+        (verify, b"# a\npoint now - 01\n", Status::BadLine(2)),
+        (verify, b"put 6b 76\n", Status::BadLine(1)),
         (root, b"x", Status::BadLine(1)),
         (root, b"# a\n\nput 6b 76\nx\ny\n", Status::BadLine(4)),
         (root, b"put 6b 76\r", Status::BadLine(1)),
@@ -318,6 +347,15 @@ fn each_status_of_a_store_has_its_line_and_its_number(rt: HostRuntime) -> Result
             "mdb: file 0 is damaged at 24",
             4,
         ),
+        (
+            Status::VerifyRefused {
+                line: 3,
+                cause: Refusal::Verify(VerifyFault::PathOrder(1)),
+            },
+            "mdb: line 3 refused, path order 1",
+            5,
+        ),
+        (Status::NotHeld, "mdb: root not held", 6),
         (Status::Disk, "mdb: disk failed", 22),
     ];
     for (status, line, number) in rows {

@@ -24,7 +24,7 @@ use Rattle.mdb_core.specs.Applies.{MayNumber, Applies, ApplyFails}
 use Rattle.mdb_core.specs.Proposals.{MayTake, Takes, TakeFails}
 use Rattle.mdb_core.proofs.KeptStores.{kept_stands, kept_keys}
 use Rattle.mdb_core.specs.declared.fault.DbFault.{DbFault}
-use Rattle.mdb_core.specs.declared.fault.DbFault.TheVariants.{Disk as DiskFault, NotAStore, BranchDiffers, Damaged, Failed, Unknown, NotLive, TooMany, TooDeep, TooHeavy, TooLarge, NotParent, Full, NoMemory as NoMemoryFault}
+use Rattle.mdb_core.specs.declared.fault.DbFault.TheVariants.{Disk as DiskFault, NotAStore, BranchDiffers, Damaged, Failed, Unknown, NotLive, NotHeld, TooMany, TooDeep, TooHeavy, TooLarge, NotParent, Full, NoMemory as NoMemoryFault}
 use Rattle.script_run.specs.declared.end.SessionEnd.{SessionEnd}
 use Rattle.script_run.specs.Ends.{end_of, fault_end, cause_told, IsTextOf, StepCause}
 use Rattle.script_run.specs.Steps.{IsAt, IsMade, IsQuiet, RunsUnprinted, KeptUnprinted, KeptPrinting, played, session_of}
@@ -83,6 +83,7 @@ module _ (w : ℕ) (m : Map) (db : DbState) (batch : List Change) (files : Files
     not_applied TooHeavy works why same = absurd why
     not_applied (TooLarge n) works why same = quietly (TooLarge n) (fault_end (TooLarge n)) (large why.0 (subst (λ (k : ℕ). payload_limit < k) why.1 why.2)) (same (λ is. let no : ⊥ = cc is in no))
     not_applied NotParent works why same = absurd why
+    not_applied NotHeld works why same = absurd why
     not_applied Full works why same = quietly Full (fault_end Full) (full why.0 why.1.fits (why.2 m (kept_keys db m files keeps))) (same (λ is. let no : ⊥ = cc is in no))
     not_applied NoMemoryFault works why same = quietly NoMemoryFault (fault_end NoMemoryFault) tt (same (λ is. let no : ⊥ = cc is in no))
 
@@ -196,6 +197,7 @@ module _ (w : ℕ) (m : Map) (db : DbState) (pending : List Change) (files : Fil
     not_taken (BranchDiffers kept asked) works why of same = settled (BranchDiffers kept asked) (by_refusal (BranchDiffers kept asked) why of) (same (λ is. let no : ⊥ = cc is in no))
     not_taken (Damaged file place) works why of same = settled (Damaged file place) (by_refusal (Damaged file place) why of) (same (λ is. let no : ⊥ = cc is in no))
     not_taken Failed works why of same = let no : ⊥ = cc (sym works ∙ why) in absurd no
+    not_taken NotHeld works why of same = settled NotHeld (by_refusal NotHeld why of) (same (λ is. let no : ⊥ = cc is in no))
     not_taken Unknown works why of same = settled Unknown (by_refusal Unknown why of) (same (λ is. let no : ⊥ = cc is in no))
     not_taken (NotLive x) works why of same = settled (NotLive x) (by_refusal (NotLive x) why of) (same (λ is. let no : ⊥ = cc is in no))
     not_taken TooMany works why of same = settled TooMany (by_refusal TooMany why of) (same (λ is. let no : ⊥ = cc is in no))
@@ -221,5 +223,6 @@ commit_cause db batch TooDeep writes writes' disks disks' works why rose = absur
 commit_cause db batch TooHeavy writes writes' disks disks' works why rose = absurd why
 commit_cause db batch (TooLarge n) writes writes' disks disks' works why rose = tt
 commit_cause db batch NotParent writes writes' disks disks' works why rose = absurd why
+commit_cause db batch NotHeld writes writes' disks disks' works why rose = absurd why
 commit_cause db batch Full writes writes' disks disks' works why rose = tt
 commit_cause db batch NoMemoryFault writes writes' disks disks' works why rose = tt

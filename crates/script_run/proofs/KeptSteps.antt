@@ -14,7 +14,7 @@ use Rattle.session_model.specs.Session.{Step}
 use Rattle.session_model.specs.Script.{text_of, after_steps}
 use Rattle.session_model.proofs.Playing.{text_of-append, after_steps-append}
 use Rattle.run_model.specs.Script.{HasSteps, Keeps}
-use Rattle.script_run.proofs.PrintedText.{nothing_yet, then_prefix, same_prefix}
+use Rattle.run_model.proofs.PrintedText.{nothing_yet, then_prefix, same_prefix}
 
 -- ---- files that stand for the map after some of the steps
 

@@ -1,6 +1,5 @@
 pub mod WaitingChanges
 pub mod KeptFiles
-pub mod PrintedText
 pub mod KeptSteps
 pub mod Stopping
 pub mod Parts

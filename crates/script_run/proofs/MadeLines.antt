@@ -24,7 +24,7 @@ use Rattle.script_run.specs.declared.end.SessionEnd.{SessionEnd}
 use Rattle.script_run.specs.declared.end.SessionEnd.TheVariants.{Done as done, BadLine as bad_line, Limit as limit, Damaged as damaged_at, Read as failed_read, Write as failed_write, Disk as failed_disk, NoMemory as no_memory}
 use Rattle.script_run.specs.Ends.{end_of, limit_of, IsTextOf}
 use Rattle.script_run.specs.Steps.{IsAt, IsDone, IsMade, IsQuiet, IsQuietEnd, PartRuns, RunsUnprinted, KeptUnprinted, KeptPrinting, played, session_of}
-use Rattle.script_run.proofs.PrintedText.{nothing_yet, same_prefix}
+use Rattle.run_model.proofs.PrintedText.{nothing_yet, same_prefix}
 use Rattle.script_run.proofs.KeptSteps.{all_done, fewer, idle, all_kept}
 use Rattle.script_run.proofs.Stopping.{stopped_runs, refused_runs, memory_no_stop, write_no_stop, disk_no_stop}
 

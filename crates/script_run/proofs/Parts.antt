@@ -14,7 +14,7 @@ use Rattle.session_model.proofs.Playing.{followed, text_of-append}
 use Rattle.run_model.specs.End.{End, Done}
 use Rattle.run_model.specs.Script.{HasSteps, end_of_stop, Keeps}
 use Rattle.script_run.specs.Steps.{CameTo, PartRuns, played}
-use Rattle.script_run.proofs.PrintedText.{and_then, then_prefix, prefix_of_more, same_text, same_prefix}
+use Rattle.run_model.proofs.PrintedText.{and_then, then_prefix, prefix_of_more, same_text, same_prefix}
 use Rattle.script_run.proofs.KeptSteps.{with_more, further, fewer, stops, kept_of_more}
 
 -- ---- a part at the front of another

@@ -27,7 +27,7 @@ use Rattle.mdb_journal.specs.Moves.{AreSynced}
 use Rattle.mdb_core.specs.Stores.{DbState, Keeps}
 use Rattle.script_run.specs.Ends.{end_of, reader_end}
 use Rattle.script_run.specs.Steps.{IsAt, IsDone, PartRuns, AllDone, all_lines, played}
-use Rattle.script_run.proofs.PrintedText.{nothing, and_then, same_text, whole}
+use Rattle.run_model.proofs.PrintedText.{nothing, and_then, same_text, whole}
 use Rattle.mdb_core.proofs.KeptStores.{kept_stands}
 use Rattle.script_run.proofs.KeptFiles.{kept_leaves}
 use Rattle.script_run.proofs.KeptSteps.{all_done, fewer, all_kept, meanwhile_on}

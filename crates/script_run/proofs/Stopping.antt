@@ -8,7 +8,7 @@ use Rattle.session_model.specs.Script.{Played, text_of}
 use Rattle.run_model.specs.End.{End, Read, Write, Disk, NoMemory}
 use Rattle.run_model.specs.Script.{IsStop, end_of_stop}
 use Rattle.script_run.specs.Steps.{PartRuns, played}
-use Rattle.script_run.proofs.PrintedText.{nothing, nothing_yet}
+use Rattle.run_model.proofs.PrintedText.{nothing, nothing_yet}
 use Rattle.script_run.proofs.KeptSteps.{none_done}
 
 -- ---- ends that are none of a script's own

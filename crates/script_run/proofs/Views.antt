@@ -1,27 +1,29 @@
 -- Lines on views that commit nothing.
 use Rattle.std.proofs.Common.{◌≡◌, ◌⊎◌, inl, inr, ℕ, ◌<◌, false, List, [], Option, Some, None, Result, Ok, Err, refl, sym, ◌∙◌, ap, subst}
-use Rattle.std.specs.Prelude.{IfOk, IfErr, OnOk, MatchOption, String, string_bytes}
+use Rattle.std.specs.Prelude.{IfOk, IfErr, OnOk, IsSome, MatchOption, String, string_bytes}
 use Rattle.std.specs.Global.{Global}
 use Rattle.std.proofs.lemmas.Bool.{le-ltb, lt-ltb}
 use Rattle.disk_model.specs.Files.{Files}
 use Rattle.disk_model.specs.Moments.{Moments}
-use Rattle.trie_model.specs.Maps.{Map, limits, root}
+use Rattle.std.specs.FinMap as map_of
+use Rattle.trie_model.specs.Maps.{Map, limits, root, map_digests}
 use Rattle.store_model.specs.Journal.{Stands}
 use Rattle.mdb_core.proofs.KeptStores.{kept_stands}
 use Rattle.batch_model.specs.Batch.{Change, after_batch}
-use Rattle.text_model.specs.Texts.{Batch, view_text, closed_text, refused_text}
+use Rattle.text_model.specs.Texts.{Batch, view_text, closed_text, refused_text, value_text}
 use Rattle.text_model.specs.Words.{PlaceWord, Db, View as OfView}
 use Rattle.view_model.specs.Forest.{ViewState, state, next_number, payload}
 use Rattle.view_model.specs.Calls.{Refusal, view_refused, parent_refused, make_refused, made as made_of, closed}
 use Rattle.view_model.specs.Maps.{parent_map}
 use Rattle.session_model.specs.Limits.{payload_limit}
 use Rattle.session_model.specs.Refusals.{cause_words}
-use Rattle.session_model.specs.Session.{Session, Step, Stop, Limit, view_at, map_at, viewed, view_step, view, close, told, told_unless, told_state, prints, refuses, or_limit}
+use Rattle.session_model.specs.Session.{Session, Step, Stop, Limit, view_at, map_at, viewed, view_step, view, close, told, told_unless, told_state, told_proof, prints, refuses, or_limit}
 use Rattle.mdb_core.specs.Stores.{DbState, Keeps, is_failed}
-use Rattle.mdb_core.specs.Places.{Refuses, fault_of_refusal}
+use Rattle.mdb_core.specs.Places.{Refuses, GetFails, fault_of_refusal, number_at, map_at as map_of_place}
+use Rattle.mdb_core.specs.declared.store.At.{At}
 use Rattle.mdb_core.specs.Proposals.{Makes, MakeFails}
 use Rattle.mdb_core.specs.declared.fault.DbFault.{DbFault}
-use Rattle.mdb_core.specs.declared.fault.DbFault.TheVariants.{Disk, NotAStore, BranchDiffers, Damaged, Failed, Unknown, NotLive, TooMany, TooDeep, TooHeavy, TooLarge, NotParent, Full, NoMemory}
+use Rattle.mdb_core.specs.declared.fault.DbFault.TheVariants.{Disk, NotAStore, BranchDiffers, Damaged, Failed, Unknown, NotLive, NotHeld, TooMany, TooDeep, TooHeavy, TooLarge, NotParent, Full, NoMemory}
 use Rattle.script_run.specs.declared.end.SessionEnd.{SessionEnd}
 use Rattle.script_run.specs.Ends.{fault_end, cause_told, IsTextOf}
 use Rattle.script_run.specs.Steps.{IsAt, IsQuiet, session_of}
@@ -81,6 +83,7 @@ module _ (w : ℕ) (m : Map) (db : DbState) (batch : List Change) (place : Place
     not_made TooHeavy works why of = by_refusal TooHeavy why of
     not_made (TooLarge n) works why of = subst (λ r. IsQuiet made r db [] files) (sym of) (large why.0.allowed (subst (λ (k : ℕ). payload_limit < k) why.1 why.2))
     not_made NotParent works why of = by_refusal NotParent why of
+    not_made NotHeld works why of = by_refusal NotHeld why of
     not_made Full works why of = by_refusal Full why of
     not_made NoMemory works why of = subst (λ r. IsQuiet made r db [] files) (sym of) tt
 
@@ -163,3 +166,61 @@ module _ (m : Map) (db : DbState) (pending : List Change) (files : Files) (keeps
       → OnOk r (db' ≡ db) → files' ≡ files → now ≡ old → Went m (reads (told (session_of m db pending) place text_of)) Disk r db' pending files' old now
   told_got Db text_of db' files' old now rose r text = got (told (session_of m db pending) Db text_of) (told_prints None (text_of m)) db' files' old now rose r text
   told_got (OfView n) text_of db' files' old now rose r text = got (told (session_of m db pending) (OfView n) text_of) (told_prints (view_refused db.forest n) (text_of (map_at (session_of m db pending) (OfView n)))) db' files' old now rose r text
+
+  pub proof_got : (found : Option (List ℕ)) (db' : DbState) (files' : Files) (old now : Moments) (rose : Type 0) (r : Result (String Global) SessionEnd) → IfOk r (λ t. string_bytes t ≡ (told_proof found).text) → IfErr r (λ end. (end ≡ no_memory) ⊎ ((end ≡ failed_disk) × rose))
+      → OnOk r (db' ≡ db) → files' ≡ files → now ≡ old → Went m (reads (told_proof found)) Disk r db' pending files' old now
+  proof_got None db' files' old now rose r text = got (told_proof None) refl db' files' old now rose r text
+  proof_got (Some bytes) db' files' old now rose r text = got (told_proof (Some bytes)) refl db' files' old now rose r text
+
+-- ---- values that are read
+pub some_map : {o : Option Map} {m : Map} → o ≡ Some m → IsSome o
+some_map is = rw is refl
+
+module _ (m : Map) (db : DbState) (place : PlaceWord) (key : List ℕ) where
+  abbrev value_told : List ℕ
+  value_told = (told (session_of m db []) place (λ k. value_text (map_of.get k key))).text
+
+  here_map : (p : PlaceWord) → map_at (session_of m db []) p ≡ parent_map db.forest m (view_at p)
+  here_map Db = refl
+  here_map (OfView n) = refl
+
+  -- the value at a place that is read
+  pub value_read : (at : At) (value : Option (List ℕ)) (r : Result (String Global) SessionEnd) → number_at at ≡ view_at place → parent_refused db.forest (number_at at) ≡ None
+      → value ≡ map_of.get (parent_map db.forest m (view_at place)) key → IsTextOf (value_text value) r → IfOk r (λ t. string_bytes t ≡ value_told)
+  value_read at value (Err end) number admitted is of = tt
+  value_read at value (Ok t) number admitted is of =
+      let allowed : parent_refused db.forest (view_at place) ≡ None = ap (parent_refused db.forest) (sym number) ∙ admitted in
+      let same : value_told ≡ value_text (map_of.get (map_at (session_of m db []) place) key) = ap (λ o. (told_unless o (value_text (map_of.get (map_at (session_of m db []) place) key))).text) allowed in
+      of ∙ ap value_text is ∙ ap (λ k. value_text (map_of.get k key)) (sym (here_map place)) ∙ sym same
+
+  ended : (r : Result (String Global) SessionEnd) (end : SessionEnd) → r ≡ Err end → IfOk r (λ t. string_bytes t ≡ value_told)
+  ended r end is = subst (λ x. IfOk x (λ t. string_bytes t ≡ value_told)) (sym is) tt
+
+  -- why a place is not read
+  module _ (at : At) (r : Result (String Global) SessionEnd) (number : number_at at ≡ view_at place) where
+    not_admitted : (fault : DbFault) → Refuses db (parent_refused db.forest (number_at at)) fault → Told fault r → IfOk r (λ t. string_bytes t ≡ value_told)
+    not_admitted fault why of = go r (told_cause fault r why.1 why.3 of)
+      where
+        refused : parent_refused db.forest (view_at place) ≡ Some why.1
+        refused = ap (parent_refused db.forest) (sym number) ∙ why.2
+
+        go : (x : Result (String Global) SessionEnd) → IsTextOf (refused_text (cause_words why.1)) x → IfOk x (λ t. string_bytes t ≡ value_told)
+        go (Err end) of = tt
+        go (Ok t) of = let same : value_told ≡ refused_text (cause_words why.1) = ap (λ o. (told_unless o (value_text (map_of.get (map_at (session_of m db []) place) key))).text) refused in of ∙ sym same
+
+    pub value_unread : (fault : DbFault) → is_failed db ≡ false → ((n : Map) → db.digests ≡ map_digests n → IsSome (map_of_place db n at)) → db.digests ≡ map_digests m → GetFails db at fault → Told fault r → IfOk r (λ t. string_bytes t ≡ value_told)
+    value_unread Disk works there digests why of = ended r failed_disk of
+    value_unread NoMemory works there digests why of = ended r no_memory of
+    value_unread Failed works there digests why of = let no : ⊥ = cc (sym works ∙ why) in absurd no
+    value_unread NotHeld works there digests why of = let here = there m digests in let none = why.1 m digests in let no : ⊥ = cc (here, none) in absurd no
+    value_unread (NotAStore file) works there digests why of = not_admitted (NotAStore file) why of
+    value_unread (BranchDiffers kept asked) works there digests why of = not_admitted (BranchDiffers kept asked) why of
+    value_unread (Damaged file place) works there digests why of = not_admitted (Damaged file place) why of
+    value_unread Unknown works there digests why of = not_admitted Unknown why of
+    value_unread (NotLive x) works there digests why of = not_admitted (NotLive x) why of
+    value_unread TooMany works there digests why of = not_admitted TooMany why of
+    value_unread TooDeep works there digests why of = not_admitted TooDeep why of
+    value_unread TooHeavy works there digests why of = not_admitted TooHeavy why of
+    value_unread (TooLarge n) works there digests why of = not_admitted (TooLarge n) why of
+    value_unread NotParent works there digests why of = not_admitted NotParent why of
+    value_unread Full works there digests why of = not_admitted Full why of

@@ -11,7 +11,7 @@ use Rattle.session_model.specs.Session.{Step}
 use Rattle.session_model.specs.Script.{text_of}
 use Rattle.run_model.specs.Script.{HasSteps, Keeps as KeepsSteps}
 use Rattle.value_store.specs.Writes.{StandEither}
-use Rattle.script_run.proofs.PrintedText.{nothing_yet}
+use Rattle.run_model.proofs.PrintedText.{nothing_yet}
 use Rattle.script_run.proofs.KeptSteps.{none_done, all_done, fewer, all_kept}
 
 module _ (m : Map) (batch : List Change) (text : List ℕ) where

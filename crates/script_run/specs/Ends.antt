@@ -7,12 +7,13 @@ use Rattle.batch_text.specs.declared.reader.ReaderFault.TheVariants.{Read as Rea
 use Rattle.mdb_base.specs.declared.faults.LimitKind.{LimitKind as LimitOfCode}
 use Rattle.mdb_base.specs.declared.faults.LimitKind.TheVariants.{Input as InputOfCode, Pairs as PairsOfCode, Batch as BatchOfCode, Answers as AnswersOfCode}
 use Rattle.mdb_core.specs.declared.fault.DbFault.{DbFault}
-use Rattle.mdb_core.specs.declared.fault.DbFault.TheVariants.{Disk as DiskFault, NotAStore, BranchDiffers, Damaged as DamagedFault, Failed, Unknown, NotLive, TooMany, TooDeep, TooHeavy, TooLarge, NotParent, Full, NoMemory as NoMemoryFault}
+use Rattle.mdb_core.specs.declared.fault.DbFault.TheVariants.{Disk as DiskFault, NotAStore, BranchDiffers, Damaged as DamagedFault, Failed, Unknown, NotLive, NotHeld, TooMany, TooDeep, TooHeavy, TooLarge, NotParent, Full, NoMemory as NoMemoryFault}
 use Rattle.script_run.specs.declared.end.SessionEnd.{SessionEnd}
 use Rattle.script_run.specs.declared.end.SessionEnd.TheVariants.{Done as done, BadLine as bad_line, Limit as limit, Damaged as damaged_at, Read as read, Write as write, Disk as disk, NoMemory as no_memory}
 use Rattle.text_model.specs.Lines.{input_limit}
 use Rattle.text_model.specs.Texts.{LimitKind, Input, Pairs, Batch, Answers}
 use Rattle.store_model.specs.Refusals.{Damaged}
+use Rattle.session_model.specs.Named.{not_held}
 use Rattle.session_model.specs.Refusals.{state_word}
 use Rattle.view_stack.specs.Told.{state_meant}
 use Rattle.run_model.specs.End.{End, Done, BadLine, NotOpened, Limit, Read, Write, Disk, NoMemory}
@@ -48,6 +49,7 @@ fault_end TooDeep = disk
 fault_end TooHeavy = disk
 fault_end (TooLarge n) = limit BatchOfCode
 fault_end NotParent = disk
+fault_end NotHeld = disk
 fault_end Full = limit PairsOfCode
 fault_end NoMemoryFault = no_memory
 
@@ -59,6 +61,7 @@ cause_told TooMany = Some (codes "too many")
 cause_told TooDeep = Some (codes "too deep")
 cause_told TooHeavy = Some (codes "too heavy")
 cause_told NotParent = Some (codes "not parent")
+cause_told NotHeld = Some not_held
 cause_told other = None
 
 -- this text was made, or there was no memory

@@ -54,6 +54,7 @@ pub(crate) fn end_of_fault(fault: DbFault) -> SessionEnd
         | DbFault::NotLive(_)
         | DbFault::TooDeep
         | DbFault::TooHeavy
-        | DbFault::NotParent => SessionEnd::Disk,
+        | DbFault::NotParent
+        | DbFault::NotHeld => SessionEnd::Disk,
     }
 }

@@ -17,6 +17,7 @@ ghost use Rattle.script_run.specs.Steps.{IsAt, IsDone, IsMade, PartRuns, RunsUnp
 use crate::SessionEnd;
 use crate::committing::{commit, take};
 use crate::pending::Pending;
+use crate::proving::prove;
 use crate::telling::{get, print, root};
 use crate::viewing::{close, state, view};
 use batch_text::{InputKind, KeyBytes, Line, LineFault, LineKind, read_line};
@@ -99,6 +100,9 @@ fn do_line<D: Disk>(
         Line::State { number } => state(alloc, db, number),
         Line::Get { place, key } => get(alloc, db, place, &key, disk),
         Line::Root { place } => root(alloc, db, place),
+        Line::Prove { root, key } => prove(alloc, db, root, &key, disk),
+        // No script has a line that checks a proof.
+        Line::Point { .. } => Ok(String::new(alloc)),
     }
 }
 

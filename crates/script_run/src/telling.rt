@@ -11,8 +11,9 @@ ghost use Rattle.text_model.specs.Texts.{numbered_text, refused_text, value_text
 ghost use Rattle.session_model.specs.Session.{told};
 ghost use Rattle.batch_text.specs.SeenLine.{seen_place};
 ghost use Rattle.mdb_journal.specs.Opening.{Untouched};
-ghost use Rattle.mdb_core.specs.Stores.{Keeps, is_failed};
-ghost use Rattle.mdb_core.specs.Places.{number_at};
+ghost use Rattle.view_model.specs.Maps.{parent_map};
+ghost use Rattle.mdb_core.specs.Stores.{DbState, Keeps, is_failed};
+ghost use Rattle.mdb_core.specs.Places.{number_at, map_at};
 ghost use Rattle.session_model.specs.Session.{view_at};
 ghost use Rattle.script_run.specs.Ends.{cause_told, fault_end, IsTextOf};
 ghost use Rattle.script_run.specs.Steps.{session_of};
@@ -61,8 +62,8 @@ fn root_line(alloc: Global, root: &Id) -> Result<String, SessionEnd>
     Ok(format!(in alloc; "root {digits}\n")?)
 }
 
-// The line of what is at a key. A value of no bytes is a dash.
-fn value_line(alloc: Global, value: &Option<Vec<u8>>) -> Result<String, SessionEnd>
+/// The line of what is at a key. A value of no bytes is a dash.
+pub fn value_line(alloc: Global, value: &Option<Vec<u8>>) -> Result<String, SessionEnd>
     ensures { IsTextOf (value_text (option_map (λ v. v.items) value.now)) result }
 {
     let Some(value) = value else {
@@ -96,6 +97,7 @@ fn cause_of(fault: DbFault) -> Option<&'static str>
         DbFault::TooDeep => Some("too deep"),
         DbFault::TooHeavy => Some("too heavy"),
         DbFault::NotParent => Some("not parent"),
+        DbFault::NotHeld => Some("not held"),
         _ => None,
     }
 }
@@ -113,7 +115,8 @@ pub(crate) fn refuse(alloc: Global, fault: DbFault) -> Result<String, SessionEnd
 
 // Where a line reads.
 fn place_at(place: PlaceWord) -> At
-    ensures { number_at result ≡ view_at (seen_place place) }
+    ensures number { number_at result ≡ view_at (seen_place place) }
+    ensures map { (s : DbState) (m : Map) → map_at s m result ≡ Some (parent_map s.forest m (view_at (seen_place place))) }
 {
     match place {
         PlaceWord::Db => At::Store,

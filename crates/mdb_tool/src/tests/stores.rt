@@ -107,6 +107,52 @@ fn a_commit_is_there_for_later_runs(rt: HostRuntime) -> Result<(), Fail> {
     Ok(())
 }
 
+// A proof of the store is one for who has the root alone. Of the other maps the empty one has a name.
+#[test]
+fn what_a_store_proves_is_accepted(rt: HostRuntime) -> Result<(), Fail> {
+    let alloc = rt.alloc();
+    let held = "1e06a9a1d455f9698b60b63f9d11dbed46ae35a85b0d74fa5b05423b34217822";
+    let zeros = "0000000000000000000000000000000000000000000000000000000000000000";
+    let other = "aae8e93fb49eac2ee7ed9b522c3aad291cecf3d448b2270cf43ce75a89ff223f";
+    let mut disk = MemDisk::new(alloc);
+    assert_turns(
+        &rt,
+        alloc,
+        &mut disk,
+        &[(APPLY, b"put 6b 76\n", Status::Done, ONE)],
+    )?;
+    let there = "proof 010401017601086b01017600\n";
+    let none = "proof 01040000\n";
+    let rows: [(&str, &str, Status, &str); 9] = [
+        ("now", "6b", Status::Done, there),
+        ("~0", "6B", Status::Done, there),
+        (held, "6b", Status::Done, there),
+        ("now", "6c", Status::Done, "proof 01040001086b01017600\n"),
+        ("now", "-", Status::Done, "proof 01040001086b01017600\n"),
+        ("empty", "6b", Status::Done, none),
+        (zeros, "6b", Status::Done, none),
+        ("~1", "6b", Status::NotHeld, ""),
+        (other, "6b", Status::NotHeld, ""),
+    ];
+    for (root, key, status, printed) in rows {
+        let mut input = MemSource::new(Vec::new(alloc), 3, Vec::new(alloc));
+        let mut out = MemSink::new(alloc, Vec::new(alloc));
+        let given = words(alloc, &["D", "prove", "16", root, key])?;
+        let ended = run(alloc, &given, &mut input, &mut out, &mut disk);
+        assert_eq!(rt; ended, status, "of {root} {key}");
+        assert_eq!(rt; out.bytes(), printed.as_bytes(), "of {root} {key}");
+    }
+    let lines: &'static [u8] =
+        b"point 1e06a9a1d455f9698b60b63f9d11dbed46ae35a85b0d74fa5b05423b34217822 6b 010401017601086b01017600\n\
+        point 1e06a9a1d455f9698b60b63f9d11dbed46ae35a85b0d74fa5b05423b34217822 6c 01040001086b01017600\n";
+    assert_turns(
+        &rt,
+        alloc,
+        &mut disk,
+        &[(&["-", "verify", "16"], lines, Status::Done, "ok 1\nok 0\n")],
+    )
+}
+
 // What is committed before the line stays, and what is pending is dropped.
 #[test]
 fn a_bad_line_ends_a_script(rt: HostRuntime) -> Result<(), Fail> {

@@ -2,7 +2,7 @@ use Rattle.std.proofs.Common.{refl}
 use Rattle.bit_keys.specs.Branch.{width_of}
 use Rattle.run_model.specs.Outside.{outside, disk_seen}
 use Rattle.mdb_tool.specs.Ends.{end_of}
-use Rattle.mdb_tool.proofs.Telling.{took_nothing}
+use Rattle.run_model.proofs.Telling.{took_nothing}
 use Rattle.mdb_tool.proofs.ApplyEnds.{Scripted, apply_failed, script_done}
 use Rattle.mdb_tool.proofs.apply_command.run_apply.Goals as goal
 

@@ -5,7 +5,8 @@ use Rattle.run_model.specs.Outside.{disk_seen}
 use Rattle.mdb_core.specs.Stores.{DbState, is_failed}
 use Rattle.mdb_core.specs.declared.fault.DbFault.{DbFault}
 use Rattle.mdb_tool.proofs.Openings.{look_up_fails, store_fails, untouched_keeps}
-use Rattle.mdb_tool.proofs.GetEnds.{value_is}
+use Rattle.mdb_tool.specs.Finding.{IsValueAt}
+use Rattle.mdb_tool.proofs.ReadEnds.{found_in}
 use Rattle.mdb_tool.proofs.get_command.look_up.Goals as goal
 
 pub returns-in-Err-get-clause-fails : goal.returns-in-Err-get-clause-fails
@@ -27,7 +28,7 @@ returns-in-Ok-close-clause-found g c =
     let words = g.D.Disk.words in
     let value = option_map (λ v. v.items) c.in-Ok-get.value in
     rw c.close.ensures.disk
-    (value_is c.args.key.now (width_of c.args.branch) (disk_seen words c.args.disk.now) (disk_seen words c.open_store.new.disk) (disk_seen words c.get.new.disk) c.in-Ok.db value c.in-Ok.ensures.opened c.get.ensures.untouched c.in-Ok-get.ensures.value)
+    (found_in (IsValueAt c.args.key.now value) (width_of c.args.branch) (disk_seen words c.args.disk.now) (disk_seen words c.open_store.new.disk) (disk_seen words c.get.new.disk) c.in-Ok.db c.in-Ok.ensures.opened c.get.ensures.untouched c.in-Ok-get.ensures.value)
 
 pub returns-in-Ok-close-clause-opens : goal.returns-in-Ok-close-clause-opens
 returns-in-Ok-close-clause-opens g c =

@@ -4,13 +4,14 @@ use Rattle.text_model.specs.ReadLine.{Batch, is_line}
 use Rattle.batch_text.specs.Stream.{SettlesNothing}
 use Rattle.mdb_tool.specs.MapLines.{FirstBad}
 use Rattle.mdb_tool.proofs.ReadingOfLines.{at_start, goes_on, at_end, past_end, at_overlong, at_bad}
-use Rattle.mdb_tool.proofs.UsedBytes.{none_used, line_used, good_so_far}
+use Rattle.text_model.proofs.LinesWithin.{overlong_lines_are_bad}
+use Rattle.batch_text.proofs.UsedBytes.{none_used, line_used, good_so_far}
 use Rattle.mdb_tool.proofs.map_lines.read_map.Goals as goal
 
 pub lines-init : goal.lines-init
 lines-init g c = record {
   so_far = at_start (g.S.Source.left c.args.input.now) c.new-digests.result c.new-reader.result c.new-digests.ensures c.new-reader.ensures.held c.new-reader.ensures.allowed;
-  used = none_used (g.S.Source.left c.args.input.now) c.new-reader.result c.new-reader.ensures.held c.new-reader.ensures.allowed;
+  used = none_used (is_line Batch) (overlong_lines_are_bad Batch) (g.S.Source.left c.args.input.now) c.new-reader.result c.new-reader.ensures.held c.new-reader.ensures.allowed;
   room = omega arith;
   ended = λ h. let no = rw c.new-reader.ensures.ended at h in let none : ⊥ = cc no in absurd none;
   tells = (λ x. x, λ x. x);
@@ -30,7 +31,7 @@ returns-in-Err-Read-clause-undecided g c = λ _.
     let kept = ensured.kept (λ is. let no : ⊥ = cc is in no) in
     let held = c.advance.new.self.held in
     let nothing : SettlesNothing c.lines.reader.allowed held = subst (λ (n : ℕ). SettlesNothing n held) kept.1 (ensured.undecided refl) in
-    good_so_far (g.S.Source.left c.args.input.now) (g.S.Source.left c.lines.input) (g.S.Source.left c.advance.new.input) c.lines.reader held k.tells k.used kept.0 nothing
+    good_so_far (is_line Batch) (overlong_lines_are_bad Batch) (g.S.Source.left c.args.input.now) (g.S.Source.left c.lines.input) (g.S.Source.left c.advance.new.input) c.lines.reader held k.tells k.used kept.0 nothing
 
 pub returns-in-Err-Limit-clause-limit : goal.returns-in-Err-Limit-clause-limit
 returns-in-Err-Limit-clause-limit g c = λ _.
@@ -64,7 +65,7 @@ lines-preserved g c =
     let lays = rw c.line.ensures at (c.in-Ok-true-apply_line.ensures.good (ap (λ (b : Bool). Ok b) c.in-Ok-true-apply_line.field-0-test)) in
     record {
       so_far = goes_on (g.S.Source.left c.args.input.now) (g.S.Source.left c.lines.input) (g.S.Source.left c.advance.new.input) c.lines.number c.lines.digests c.apply_line.new.digests c.lines.reader c.advance.new.self k.tells k.so_far gives lays;
-      used = line_used (g.S.Source.left c.args.input.now) (g.S.Source.left c.lines.input) (g.S.Source.left c.advance.new.input) c.lines.reader c.advance.new.self k.tells k.used (c.in-Ok-true.ensures.takes given) (ap is_ok lays.is);
+      used = line_used (is_line Batch) (overlong_lines_are_bad Batch) (g.S.Source.left c.args.input.now) (g.S.Source.left c.lines.input) (g.S.Source.left c.advance.new.input) c.lines.reader c.advance.new.self k.tells k.used (c.in-Ok-true.ensures.takes given) (ap is_ok lays.is);
       room = omega (arith, k.room, shorter);
       ended = c.advance.ensures.ended;
       tells = (λ x. k.tells.0 (c.advance.ensures.tells.0 x), λ x. c.advance.ensures.tells.1 (k.tells.1 x));

@@ -5,11 +5,12 @@ use Rattle.disk_model.proofs.Telling.{contents_too}
 use Rattle.trie_model.specs.Maps.{root}
 use Rattle.batch_model.specs.Batch.{Change}
 use Rattle.text_model.specs.Texts.{root_text, value_text}
-use Rattle.batch_text.specs.SeenLine.{seen_line, seen_place}
+use Rattle.batch_text.specs.SeenLine.{seen_line, seen_place, seen_root}
 use Rattle.batch_text.specs.declared.line.Line.{Line}
 use Rattle.mdb_core.specs.declared.fault.DbFault.TheVariants.{Disk}
 use Rattle.mdb_core.proofs.KeptStores.{kept_stands, kept_same}
-use Rattle.session_model.specs.Session.{or_limit, line_step, commit, view, told}
+use Rattle.session_model.specs.Named.{proved}
+use Rattle.session_model.specs.Session.{or_limit, line_step, commit, view, told, told_proof}
 use Rattle.run_model.specs.Script.{Keeps as KeepsSteps}
 use Rattle.script_run.specs.Ends.{end_of}
 use Rattle.script_run.specs.Steps.{IsMade, IsQuiet, RunsUnprinted, KeptUnprinted, KeptPrinting, played, session_of}
@@ -17,7 +18,7 @@ use Rattle.script_run.proofs.KeptFiles.{kept_leaves}
 use Rattle.script_run.proofs.KeptSteps.{idle}
 use Rattle.script_run.proofs.MadeLines.{Went, quiet_done, quiet_stopped, quiet_kept, quiet_told, went_done, went_stopped, went_kept, went_told}
 use Rattle.script_run.proofs.QuietLines.{skip_quiet, pend_quiet}
-use Rattle.script_run.proofs.Views.{state_quiet, told_quiet, told_got}
+use Rattle.script_run.proofs.Views.{state_quiet, told_quiet, told_got, proof_got}
 use Rattle.script_run.proofs.line_step.do_line.Goals as goal
 
 pub returns-in-Skip-clause-done : goal.returns-in-Skip-clause-done
@@ -175,11 +176,11 @@ returns-in-Ok-clause-told g c = λ tells m keeps synced.
     let of_pending = subst (λ (cs : List Change). OnOk c.commit.result (KeptPrinting (session_of m db cs) (or_limit (commit w (session_of m db cs))) old now)) c.in-Ok.ensures.batch of_batch in
     subst (λ (line : Line). OnOk c.commit.result (KeptPrinting (s) (or_limit (line_step w s (seen_line line))) old now)) (sym c.in-Commit.is) of_pending
 
-pub returns-in-Err-clause-kept : goal.returns-in-Err-clause-kept
-returns-in-Err-clause-kept g c = λ tells m keeps synced taken. idle m _ taken (g.D.Disk.words.moments c.args.disk.now) (kept_leaves c.args.db.now m (g.D.Disk.words.seen c.args.disk.now) (g.D.Disk.words.moments c.args.disk.now) keeps synced)
+pub returns-in-Commit-clause-kept : goal.returns-in-Commit-clause-kept
+returns-in-Commit-clause-kept g c = λ tells m keeps synced taken. idle m _ taken (g.D.Disk.words.moments c.args.disk.now) (kept_leaves c.args.db.now m (g.D.Disk.words.seen c.args.disk.now) (g.D.Disk.words.moments c.args.disk.now) keeps synced)
 
-pub returns-in-Err-take-clause-kept : goal.returns-in-Err-take-clause-kept
-returns-in-Err-take-clause-kept g c = λ tells m keeps synced taken. idle m _ taken (g.D.Disk.words.moments c.args.disk.now) (kept_leaves c.args.db.now m (g.D.Disk.words.seen c.args.disk.now) (g.D.Disk.words.moments c.args.disk.now) keeps synced)
+pub returns-in-View-clause-kept : goal.returns-in-View-clause-kept
+returns-in-View-clause-kept g c = λ tells m keeps synced taken. idle m _ taken (g.D.Disk.words.moments c.args.disk.now) (kept_leaves c.args.db.now m (g.D.Disk.words.seen c.args.disk.now) (g.D.Disk.words.moments c.args.disk.now) keeps synced)
 
 pub returns-in-Ok-take-clause-done : goal.returns-in-Ok-take-clause-done
 returns-in-Ok-take-clause-done g c = λ tells m keeps.
@@ -474,3 +475,92 @@ returns-in-Get-clause-told g c = λ tells m keeps synced.
     let went : Went m made Disk c.get.result c.get.new.db pending files old now = subst (λ (line : Line). Went m (or_limit (line_step w s (seen_line line))) Disk c.get.result c.get.new.db pending files old now) (sym c.in-Get.is)
     (told_got m db pending (d.seen c.args.disk.now) keeps (seen_place c.in-Get.place) (λ k. value_text (map_of.get k c.in-Get.key.items)) c.get.new.db files old now _ c.get.result (subst (λ (key : List ℕ). IfOk c.get.result (λ t. string_bytes t ≡ (told (session_of m db []) (seen_place c.in-Get.place) (λ k. value_text (map_of.get k key))).text)) c.deref.ensures (c.get.ensures.text (contents_too d.tells tells) m keeps)) c.get.ensures.end c.get.ensures.stays c.get.ensures.untouched.seen c.get.ensures.untouched.images) in
     went_told s made Disk c.get.result c.get.new.db pending files old now went (kept_leaves db m (d.seen c.args.disk.now) old keeps synced)
+
+pub returns-in-Prove-clause-done : goal.returns-in-Prove-clause-done
+returns-in-Prove-clause-done g c = λ tells m keeps.
+    let d = g.D.Disk.words in
+    let db = c.args.db.now in
+    let w = db.width in
+    let pending = c.args.pending.now in
+    let s = session_of m db pending in
+    let made = or_limit (line_step w s (seen_line c.args.line)) in
+    let files = d.seen c.prove.new.disk in
+    let old = d.moments c.args.disk.now in
+    let now = d.moments c.prove.new.disk in
+    let went : Went m made Disk c.prove.result c.prove.new.db pending files old now = subst (λ (line : Line). Went m (or_limit (line_step w s (seen_line line))) Disk c.prove.result c.prove.new.db pending files old now) (sym c.in-Prove.is)
+    (proof_got m db pending (d.seen c.args.disk.now) keeps (proved w m (seen_root c.in-Prove.root) c.in-Prove.key.items) c.prove.new.db files old now _ c.prove.result (subst (λ (key : List ℕ). IfOk c.prove.result (λ t. string_bytes t ≡ (told_proof (proved w m (seen_root c.in-Prove.root) key)).text)) c.deref-in-Prove.ensures (c.prove.ensures.text tells m keeps)) c.prove.ensures.end c.prove.ensures.stays c.prove.ensures.untouched.seen c.prove.ensures.untouched.images) in
+    went_done s made Disk c.prove.result c.prove.new.db pending files old now went
+
+pub returns-in-Prove-clause-stopped : goal.returns-in-Prove-clause-stopped
+returns-in-Prove-clause-stopped g c = λ tells m keeps.
+    let d = g.D.Disk.words in
+    let db = c.args.db.now in
+    let w = db.width in
+    let pending = c.args.pending.now in
+    let s = session_of m db pending in
+    let made = or_limit (line_step w s (seen_line c.args.line)) in
+    let files = d.seen c.prove.new.disk in
+    let old = d.moments c.args.disk.now in
+    let now = d.moments c.prove.new.disk in
+    let went : Went m made Disk c.prove.result c.prove.new.db pending files old now = subst (λ (line : Line). Went m (or_limit (line_step w s (seen_line line))) Disk c.prove.result c.prove.new.db pending files old now) (sym c.in-Prove.is)
+    (proof_got m db pending (d.seen c.args.disk.now) keeps (proved w m (seen_root c.in-Prove.root) c.in-Prove.key.items) c.prove.new.db files old now _ c.prove.result (subst (λ (key : List ℕ). IfOk c.prove.result (λ t. string_bytes t ≡ (told_proof (proved w m (seen_root c.in-Prove.root) key)).text)) c.deref-in-Prove.ensures (c.prove.ensures.text tells m keeps)) c.prove.ensures.end c.prove.ensures.stays c.prove.ensures.untouched.seen c.prove.ensures.untouched.images) in
+    went_stopped s made Disk c.prove.result c.prove.new.db pending files old now went
+
+pub returns-in-Prove-clause-kept : goal.returns-in-Prove-clause-kept
+returns-in-Prove-clause-kept g c = λ tells m keeps synced.
+    let d = g.D.Disk.words in
+    let db = c.args.db.now in
+    let w = db.width in
+    let pending = c.args.pending.now in
+    let s = session_of m db pending in
+    let made = or_limit (line_step w s (seen_line c.args.line)) in
+    let files = d.seen c.prove.new.disk in
+    let old = d.moments c.args.disk.now in
+    let now = d.moments c.prove.new.disk in
+    let went : Went m made Disk c.prove.result c.prove.new.db pending files old now = subst (λ (line : Line). Went m (or_limit (line_step w s (seen_line line))) Disk c.prove.result c.prove.new.db pending files old now) (sym c.in-Prove.is)
+    (proof_got m db pending (d.seen c.args.disk.now) keeps (proved w m (seen_root c.in-Prove.root) c.in-Prove.key.items) c.prove.new.db files old now _ c.prove.result (subst (λ (key : List ℕ). IfOk c.prove.result (λ t. string_bytes t ≡ (told_proof (proved w m (seen_root c.in-Prove.root) key)).text)) c.deref-in-Prove.ensures (c.prove.ensures.text (contents_too d.tells tells) m keeps)) c.prove.ensures.end c.prove.ensures.stays c.prove.ensures.untouched.seen c.prove.ensures.untouched.images) in
+    went_kept s made Disk c.prove.result c.prove.new.db pending files old now went (kept_leaves db m (d.seen c.args.disk.now) old keeps synced)
+    (λ lost taken. subst (λ n. KeepsSteps m (played s made).steps taken taken old n) (sym c.prove.ensures.untouched.images) (idle m (played s made).steps taken old (kept_leaves db m (d.seen c.args.disk.now) old keeps synced)))
+
+pub returns-in-Prove-clause-told : goal.returns-in-Prove-clause-told
+returns-in-Prove-clause-told g c = λ tells m keeps synced.
+    let d = g.D.Disk.words in
+    let db = c.args.db.now in
+    let w = db.width in
+    let pending = c.args.pending.now in
+    let s = session_of m db pending in
+    let made = or_limit (line_step w s (seen_line c.args.line)) in
+    let files = d.seen c.prove.new.disk in
+    let old = d.moments c.args.disk.now in
+    let now = d.moments c.prove.new.disk in
+    let went : Went m made Disk c.prove.result c.prove.new.db pending files old now = subst (λ (line : Line). Went m (or_limit (line_step w s (seen_line line))) Disk c.prove.result c.prove.new.db pending files old now) (sym c.in-Prove.is)
+    (proof_got m db pending (d.seen c.args.disk.now) keeps (proved w m (seen_root c.in-Prove.root) c.in-Prove.key.items) c.prove.new.db files old now _ c.prove.result (subst (λ (key : List ℕ). IfOk c.prove.result (λ t. string_bytes t ≡ (told_proof (proved w m (seen_root c.in-Prove.root) key)).text)) c.deref-in-Prove.ensures (c.prove.ensures.text (contents_too d.tells tells) m keeps)) c.prove.ensures.end c.prove.ensures.stays c.prove.ensures.untouched.seen c.prove.ensures.untouched.images) in
+    went_told s made Disk c.prove.result c.prove.new.db pending files old now went (kept_leaves db m (d.seen c.args.disk.now) old keeps synced)
+
+pub returns-clause-done : goal.returns-clause-done
+returns-clause-done g c = λ tells m keeps.
+    let d = g.D.Disk.words in
+    let db = c.args.db.now in
+    let w = db.width in
+    let pending = c.args.pending.now in
+    let s = session_of m db pending in
+    let made = or_limit (line_step w s (seen_line c.args.line)) in
+    let files = d.seen c.args.disk.now in
+    let old = d.moments c.args.disk.now in
+    let now = d.moments c.args.disk.now in
+    let quiet : IsQuiet made (Ok c.new-in-Point.result) db pending files = subst (λ (line : Line). IsQuiet (or_limit (line_step w s (seen_line line))) (Ok c.new-in-Point.result) db pending files) (sym c.in-Point.is) (skip_quiet m db pending files (Ok c.new-in-Point.result) keeps c.new-in-Point.ensures.bytes) in
+    quiet_done s made (Ok c.new-in-Point.result) db pending files quiet
+
+pub returns-clause-told : goal.returns-clause-told
+returns-clause-told g c = λ tells m keeps synced.
+    let d = g.D.Disk.words in
+    let db = c.args.db.now in
+    let w = db.width in
+    let pending = c.args.pending.now in
+    let s = session_of m db pending in
+    let made = or_limit (line_step w s (seen_line c.args.line)) in
+    let files = d.seen c.args.disk.now in
+    let old = d.moments c.args.disk.now in
+    let now = d.moments c.args.disk.now in
+    let quiet : IsQuiet made (Ok c.new-in-Point.result) db pending files = subst (λ (line : Line). IsQuiet (or_limit (line_step w s (seen_line line))) (Ok c.new-in-Point.result) db pending files) (sym c.in-Point.is) (skip_quiet m db pending files (Ok c.new-in-Point.result) keeps c.new-in-Point.ensures.bytes) in
+    quiet_told s made (Ok c.new-in-Point.result) db pending files old now refl (kept_leaves db m (d.seen c.args.disk.now) old keeps synced) quiet

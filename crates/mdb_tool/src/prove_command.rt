@@ -1,0 +1,85 @@
+// The command `prove`: the proof of a key, in the map of a store that a root names.
+ghost use Rattle.std.specs.Prelude.{◌≡◌, ◌≤◌, ℕ, List, Option, IfOk, IfErr, option_map, string_bytes};
+ghost use Rattle.bit_keys.specs.Branch.{width_of};
+ghost use Rattle.batch_text.specs.SeenLine.{seen_root};
+ghost use Rattle.run_model.specs.Outside.{outside, disk_seen};
+ghost use Rattle.run_model.specs.Command.{Prove};
+ghost use Rattle.run_model.specs.Prove.{ProveRuns, prove_outcome};
+ghost use Rattle.run_model.specs.Runs.{SharedRuns};
+ghost use Rattle.mdb_tool.specs.Ends.{end_of, end_of_reading};
+ghost use Rattle.mdb_tool.specs.Finding.{Finds, IsLineOf};
+ghost use Rattle.mdb_tool.specs.Opening.{KeepsMaps, FailsBy};
+
+use crate::opening::{open_store, status_of_fault};
+use crate::status::Status;
+use batch_text::RootWord;
+use bit_keys::Branch;
+use disk_world::Disk;
+use mdb_base::{Sink, write_all};
+use script_run::{SessionEnd, proof_line};
+use std::alloc::Global;
+
+// The status with which a run ends that could not read the store.
+fn status_of_reading(end: SessionEnd) -> Status
+    ensures { end_of result ≡ end_of_reading end }
+{
+    match end {
+        SessionEnd::Disk => Status::Disk,
+        _ => Status::NoMemory,
+    }
+}
+
+// The line of the proof of a key in the store of a disk; None where the store has no map that the root names.
+fn look_up<D: Disk>(
+    alloc: Global,
+    branch: Branch,
+    root: RootWord,
+    key: &[u8],
+    disk: &mut D,
+) -> Result<Option<String>, Status>
+    ensures found { IfOk result (λ line. Finds (IsLineOf (prove_outcome (width_of branch) (seen_root root) key.now) (option_map string_bytes line)) (width_of branch) (disk_seen D.words disk.old) (disk_seen D.words disk.new)) }
+    ensures fails { IfErr result (λ status. FailsBy (width_of branch) (disk_seen D.words disk.old) (disk_seen D.words disk.new) (end_of status)) }
+    ensures opens { KeepsMaps (disk_seen D.words disk.old) (disk_seen D.words disk.new) }
+    ensures later { D.words.faults disk.old ≤ D.words.faults disk.new }
+{
+    let mut db = match open_store(alloc, branch, disk) {
+        Ok(db) => db,
+        Err(status) => return Err(status),
+    };
+    let line = match proof_line(alloc, &mut db, root, key, disk) {
+        Ok(line) => line,
+        Err(end) => return Err(status_of_reading(end)),
+    };
+    match db.close(disk) {
+        Ok(()) => Ok(line),
+        Err(fault) => Err(status_of_fault(fault)),
+    }
+}
+
+/// Prints the proof of a key in the map of a store that a root names. It is handed no input: its clauses
+/// hold of each one, which is as it was.
+pub(crate) fn run_prove<K: Sink, D: Disk>(
+    alloc: Global,
+    branch: Branch,
+    root: RootWord,
+    key: &[u8],
+    out: &mut K,
+    disk: &mut D,
+) -> Status
+    ensures shared { (left : Option (List ℕ)) (reads : ℕ) → let before = outside left reads (K.taken out.old) (K.faults out.old) (disk_seen D.words disk.old) in
+        let after = outside left reads (K.taken out.new) (K.faults out.new) (disk_seen D.words disk.new) in
+        SharedRuns (Prove (seen_root root) key.now) (width_of branch) before after (end_of result) }
+    ensures prove { (left : Option (List ℕ)) (reads : ℕ) → let before = outside left reads (K.taken out.old) (K.faults out.old) (disk_seen D.words disk.old) in
+        let after = outside left reads (K.taken out.new) (K.faults out.new) (disk_seen D.words disk.new) in
+        ProveRuns (seen_root root) key.now (width_of branch) before after (end_of result) }
+{
+    let line = match look_up(alloc, branch, root, key, disk) {
+        Ok(Some(line)) => line,
+        Ok(None) => return Status::NotHeld,
+        Err(status) => return status,
+    };
+    match write_all(out, line.as_bytes()) {
+        Ok(()) => Status::Done,
+        Err(_) => Status::Write,
+    }
+}

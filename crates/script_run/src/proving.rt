@@ -1,0 +1,141 @@
+// Lines that prove what the store has.
+ghost use Rattle.std.specs.Prelude.{◌≡◌, ◌⊎◌, ◌≤◌, ℕ, false, true, None, option_map, string_bytes, IfOk, IfErr, IfSome, IfNone, OnOk, IsErrOf};
+ghost use Rattle.base_model.specs.Faults.{Rose};
+ghost use Rattle.disk_model.specs.Words.{TellsContents};
+ghost use Rattle.trie_model.specs.Maps.{Map};
+ghost use Rattle.text_model.specs.Texts.{proof_text};
+ghost use Rattle.proof_model.specs.Proofs.{point_proof};
+ghost use Rattle.proof_model.specs.Wire.{point_form};
+ghost use Rattle.session_model.specs.Named.{held, named, proved};
+ghost use Rattle.session_model.specs.Session.{told_proof};
+ghost use Rattle.batch_text.specs.SeenLine.{seen_root};
+ghost use Rattle.mdb_journal.specs.Opening.{Untouched};
+ghost use Rattle.mdb_core.specs.Stores.{DbState, Keeps, is_failed};
+ghost use Rattle.mdb_core.specs.Places.{number_at, map_at};
+ghost use Rattle.mdb_core.specs.Spots.{IsSpotOf};
+ghost use Rattle.script_run.specs.Ends.{IsTextOf};
+
+use crate::SessionEnd;
+use crate::end::end_of_fault;
+use crate::telling::refused_line;
+use batch_text::RootWord;
+use disk_world::Disk;
+use mdb_core::{At, Db, DbFault, DbSource, Spot};
+use point_proof::prove as prove_point;
+use proof_check::PointProof;
+use std::alloc::Global;
+use trie_items::SourceFault;
+
+// Where the map is that a root names; None where the store holds no such map.
+fn place_of(root: RootWord) -> Option<At>
+    ensures some { IfSome result (λ at. (s : DbState) (m : Map) → named s.width (held m) (seen_root root) ≡ map_at s m at) }
+    ensures no_view { IfSome result (λ at. number_at at ≡ None) }
+    ensures none { IfNone result ((w : ℕ) (m : Map) → named w (held m) (seen_root root) ≡ None) }
+{
+    match root {
+        RootWord::Id(id) => Some(At::Root(id)),
+        RootWord::Now | RootWord::Back(0) => Some(At::Store),
+        RootWord::Empty => Some(At::Root([0; 32])),
+        RootWord::Back(_) => None,
+    }
+}
+
+// The proof of a key in the map of a spot.
+fn prove_at<D: Disk>(
+    alloc: Global,
+    db: &mut Db,
+    spot: &Spot,
+    key: &[u8],
+    disk: &mut D,
+) -> Result<PointProof, SessionEnd>
+    requires { is_failed db.old ≡ false }
+    ensures proof { TellsContents D.words.tells → (m : Map) (n : Map) → Keeps db.old m (D.words.seen disk.old) → IsSpotOf db.old m spot.now n
+        → IfOk result (λ proof. proof ≡ point_proof db.old.width n key.now) }
+    ensures end { IfErr result (λ end. (end ≡ SessionEnd.NoMemory) ⊎ ((end ≡ SessionEnd.Disk) × Rose (D.words.faults disk.old) (D.words.faults disk.new))) }
+    ensures stays { OnOk result (db.new ≡ db.old) }
+    ensures failed { is_failed db.new ≡ true → IsErrOf result SessionEnd.Disk }
+    ensures width { db.new.width ≡ db.old.width }
+    ensures untouched { Untouched (D.words.seen disk.old) (D.words.seen disk.new) (D.words.moments disk.old) (D.words.moments disk.new) }
+    ensures later { D.words.faults disk.old ≤ D.words.faults disk.new }
+{
+    let branch = db.branch();
+    let mut source = DbSource { db, disk, spot };
+    match prove_point(alloc, &mut source, branch, key) {
+        Ok(proof) => Ok(proof),
+        Err(SourceFault::Failed) => Err(SessionEnd::Disk),
+        Err(SourceFault::NoMemory) => Err(SessionEnd::NoMemory),
+    }
+}
+
+// The line of a proof.
+fn line_of_proof(alloc: Global, proof: &PointProof) -> Result<String, SessionEnd>
+    ensures { IsTextOf (proof_text (point_form proof.now)) result }
+{
+    let mut bytes = Vec::new(alloc);
+    if proof.encode(&mut bytes).is_err() {
+        return Err(SessionEnd::NoMemory);
+    }
+    let digits = hex::encode(alloc, bytes.as_slice())?;
+    Ok(format!(in alloc; "proof {digits}\n")?)
+}
+
+/// The line of the proof of a key, in the map that a root names; None where the store holds no such map.
+pub fn proof_line<D: Disk>(
+    alloc: Global,
+    db: &mut Db,
+    root: RootWord,
+    key: &[u8],
+    disk: &mut D,
+) -> Result<Option<String>, SessionEnd>
+    requires { is_failed db.old ≡ false }
+    ensures text { TellsContents D.words.tells → (m : Map) → Keeps db.old m (D.words.seen disk.old)
+        → IfOk result (λ line. option_map string_bytes line ≡ option_map proof_text (proved db.old.width m (seen_root root) key.now)) }
+    ensures end { IfErr result (λ end. (end ≡ SessionEnd.NoMemory) ⊎ ((end ≡ SessionEnd.Disk) × Rose (D.words.faults disk.old) (D.words.faults disk.new))) }
+    ensures stays { OnOk result (db.new ≡ db.old) }
+    ensures failed { is_failed db.new ≡ true → IsErrOf result SessionEnd.Disk }
+    ensures width { db.new.width ≡ db.old.width }
+    ensures untouched { Untouched (D.words.seen disk.old) (D.words.seen disk.new) (D.words.moments disk.old) (D.words.moments disk.new) }
+    ensures later { D.words.faults disk.old ≤ D.words.faults disk.new }
+{
+    let Some(at) = place_of(root) else {
+        return Ok(None);
+    };
+    let spot = match db.source(alloc, disk, at) {
+        Ok(spot) => spot,
+        Err(DbFault::NotHeld) => return Ok(None),
+        Err(fault) => return Err(end_of_fault(fault)),
+    };
+    let proof = match prove_at(alloc, db, &spot, key, disk) {
+        Ok(proof) => proof,
+        Err(end) => return Err(end),
+    };
+    match line_of_proof(alloc, &proof) {
+        Ok(line) => Ok(Some(line)),
+        Err(end) => Err(end),
+    }
+}
+
+/// The line that a script prints of the proof of a key.
+pub(crate) fn prove<D: Disk>(
+    alloc: Global,
+    db: &mut Db,
+    root: RootWord,
+    key: &[u8],
+    disk: &mut D,
+) -> Result<String, SessionEnd>
+    requires { is_failed db.old ≡ false }
+    ensures text { TellsContents D.words.tells → (m : Map) → Keeps db.old m (D.words.seen disk.old)
+        → IfOk result (λ text. string_bytes text ≡ (told_proof (proved db.old.width m (seen_root root) key.now)).text) }
+    ensures end { IfErr result (λ end. (end ≡ SessionEnd.NoMemory) ⊎ ((end ≡ SessionEnd.Disk) × Rose (D.words.faults disk.old) (D.words.faults disk.new))) }
+    ensures stays { OnOk result (db.new ≡ db.old) }
+    ensures failed { is_failed db.new ≡ true → IsErrOf result SessionEnd.Disk }
+    ensures width { db.new.width ≡ db.old.width }
+    ensures untouched { Untouched (D.words.seen disk.old) (D.words.seen disk.new) (D.words.moments disk.old) (D.words.moments disk.new) }
+    ensures later { D.words.faults disk.old ≤ D.words.faults disk.new }
+{
+    match proof_line(alloc, db, root, key, disk) {
+        Ok(Some(line)) => Ok(line),
+        Ok(None) => refused_line(alloc, "not held"),
+        Err(end) => Err(end),
+    }
+}

@@ -1,0 +1,3 @@
+pub mod PointFaults
+pub mod LinesSoFar
+pub mod VerifyEnds

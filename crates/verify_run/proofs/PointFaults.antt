@@ -1,0 +1,55 @@
+-- What is known of a proof of a line, by what its bytes are read as and what its check tells.
+use Rattle.std.proofs.Common.{◌≡◌, ℕ, List, Option, Some, None, Result, Ok, Err, refl, sym, ap, ◌∙◌}
+use Rattle.std.specs.Prelude.{IsErr}
+use Rattle.trie_model.specs.Maps.{limits}
+use Rattle.text_model.specs.LineKind.{LineKind}
+use Rattle.text_model.specs.ReadLine.{Line, Verify as proof_lines, Point, read_line}
+use Rattle.text_model.proofs.PointLines.{point_lines_are_within}
+use Rattle.proof_model.specs.Checked.{Cause, NotRead, NotAccepted, unless_refused, checked, point_checked}
+use Rattle.proof_model.specs.Proofs.{PointProof}
+use Rattle.proof_model.specs.Refusals.{Refusal, point_refusal}
+use Rattle.proof_model.specs.Wire as wire
+use Rattle.proof_model.specs.Wire.{point_of}
+use Rattle.proof_check.specs.Read.{seen_kind, IsFault}
+use Rattle.proof_check.specs.Told.{Tells}
+use Rattle.proof_check.specs.declared.verify_fault.VerifyFault.{VerifyFault}
+use Rattle.proof_check.specs.declared.verify_fault.VerifyFault.TheVariants as checks
+use Rattle.proof_check.specs.declared.wire_fault.WireKind.{WireKind}
+use Rattle.proof_check.specs.declared.wire_fault.WireKind.TheVariants as kinds
+use Rattle.proof_check.specs.declared.wire_fault.WireFault.{WireFault}
+use Rattle.run_model.specs.Verify.{Fault, NotUnderstood, read_verdict}
+use Rattle.verify_run.specs.Checks.{wire_fault, check_fault, IsRefused, AsLine}
+
+-- bytes that are no proof
+pub wire_refused : {A : Type 0} (refuse : A → Option Refusal) (read : Result A wire.WireFault) (kind : WireKind) (fault : WireFault) → fault.kind ≡ kind → IsFault fault.at (seen_kind kind) read → IsRefused (checked refuse read) (wire_fault kind fault)
+wire_refused refuse read kinds.NoMemory fault is wrong = tt
+wire_refused refuse read kind fault is wrong = rw (is, wrong) refl
+
+-- a proof that is not accepted
+pub check_refused : {A : Type 0} (p : A) (why : Option Refusal) (fault : VerifyFault) → Tells {A = Unit {0}} (Err fault) why → IsRefused (unless_refused p why) (check_fault fault)
+check_refused p why checks.NoMemory told = tt
+check_refused p why checks.Failed told = absurd told
+check_refused p why (checks.Unsorted i) told = rw told refl
+check_refused p why (checks.Outside i) told = rw told refl
+check_refused p why (checks.PathOrder i) told = rw told refl
+check_refused p why (checks.PathsDiffer i) told = rw told refl
+check_refused p why (checks.Idle i) told = rw told refl
+check_refused p why (checks.RootDiffers have want) told = rw told refl
+
+-- the check of bytes that are a proof is that of the proof
+pub checked_read : (w : ℕ) (want key bytes : List ℕ) (p : PointProof) → point_of limits w bytes ≡ Ok p → unless_refused p (point_refusal w key want p) ≡ point_checked limits w want key bytes
+unfolding point_checked
+checked_read w want key bytes p is = rw is refl
+
+pub accepted_read : (w : ℕ) (want key bytes : List ℕ) (p : PointProof) → point_of limits w bytes ≡ Ok p → point_refusal w key want p ≡ None → point_checked limits w want key bytes ≡ Ok p
+accepted_read w want key bytes p is none = sym (checked_read w want key bytes p is) ∙ ap (unless_refused p) none
+
+-- what is not read is not understood
+pub not_understood : (w : ℕ) (read : Result Line LineKind) → IsErr read → read_verdict w read ≡ Err NotUnderstood
+not_understood w (Err kind) bad = refl
+not_understood w (Ok line) bad = let no : ⊥ = cc bad in absurd no
+
+-- a line that was read has a key within its limit
+pub as_line : (line : List ℕ) (found : Line) → read_line proof_lines line ≡ Ok found → AsLine found
+as_line line (Point want key bytes) is = (point_lines_are_within line want key bytes is).key_short
+as_line line other is = tt

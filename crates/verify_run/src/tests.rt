@@ -1,0 +1,127 @@
+// Lines of proofs. Each root is the SHA-256 of a string that is written beside it.
+use crate::{VerifyEnd, cause_text, verify};
+use bit_keys::Branch;
+use mdb_base::{MemSink, MemSource, NoMemory};
+use std::alloc::Global;
+use std::test::Fail;
+
+/// Of 76 at 6b: 00 01 01 76 08 6b.
+const ONE: &str = "1e06a9a1d455f9698b60b63f9d11dbed46ae35a85b0d74fa5b05423b34217822";
+
+/// Of 61 at 0a: 00 01 01 61 08 0a.
+const OTHER: &str = "00d38df253fa5cbfd74aa88e547efbbfaa1ccd15bbf741cb6b2629e460732170";
+
+/// How a run ended, in words.
+fn words_of(alloc: Global, end: &VerifyEnd) -> Result<String, NoMemory> {
+    let text = match end {
+        VerifyEnd::Done => String::from_str(alloc, "done")?,
+        VerifyEnd::BadLine(number) => {
+            let number = *number;
+            format!(in alloc; "line {number}")?
+        }
+        VerifyEnd::Refused { line, cause } => {
+            let line = *line;
+            let why = cause_text(alloc, cause)?;
+            format!(in alloc; "line {line} refused, {why}")?
+        }
+        VerifyEnd::Limit => String::from_str(alloc, "limit")?,
+        VerifyEnd::Read => String::from_str(alloc, "read")?,
+        VerifyEnd::Write => String::from_str(alloc, "write")?,
+        VerifyEnd::NoMemory => String::from_str(alloc, "memory")?,
+    };
+    Ok(text)
+}
+
+/// A text with a root in the place of each `@` and of each `%`.
+fn filled(alloc: Global, text: &str) -> Result<String, Fail> {
+    let mut out = String::new(alloc);
+    for c in text.chars() {
+        match c {
+            '@' => out.push_str(ONE)?,
+            '%' => out.push_str(OTHER)?,
+            c => out.push(c)?,
+        }
+    }
+    Ok(out)
+}
+
+fn source(alloc: Global, text: &str, failing: &[u64]) -> Result<MemSource, Fail> {
+    let text = filled(alloc, text)?;
+    let bytes = Vec::from_slice(alloc, text.as_bytes())?;
+    let failing = Vec::from_slice(alloc, failing)?;
+    Ok(MemSource::new(bytes, 7, failing))
+}
+
+#[test]
+fn each_line_is_checked_until_one_does_not_pass(rt: HostRuntime) -> Result<(), Fail> {
+    let alloc = rt.alloc();
+    // The lines, how they end, and what they print.
+    let rows: [(&str, &str, &str); 13] = [
+        ("", "done", ""),
+        ("# no proof\n\n", "done", ""),
+        ("point @ 6b 010401017601086b01017600\n", "done", "ok 1\n"),
+        ("point @ 6c 01040001086b01017600", "done", "ok 0\n"),
+        ("point empty 6b 01040000\n", "done", "ok 0\n"),
+        (
+            "point @ 6b 010401017602086b01017600086b01017600\n",
+            "line 1 refused, path order 1",
+            "",
+        ),
+        (
+            "point @ 6c 01040001086b01017600\n\npoint % 6b 010401017601086b01017600\n",
+            "line 3 refused, root differs @ %",
+            "ok 0\n",
+        ),
+        ("point @ 6b 010402\n", "line 1 refused, bytes at 2", ""),
+        ("point @ 6b -\n", "line 1 refused, bytes at 0", ""),
+        (
+            "point @ 6b 010401017601086b0101760000\n",
+            "line 1 refused, bytes at 12",
+            "",
+        ),
+        (
+            "point empty - 01040000\nput 6b 76\npoint @ 6b 010402\n",
+            "line 2",
+            "ok 0\n",
+        ),
+        ("point now 6b 01040000\n", "line 1", ""),
+        ("point @ 6b\n", "line 1", ""),
+    ];
+    for (text, want, printed) in rows {
+        let mut input = source(alloc, text, &[])?;
+        let mut out = MemSink::new(alloc, Vec::new(alloc));
+        let end = verify(alloc, Branch::B16, &mut input, &mut out);
+        assert_eq!(rt; words_of(alloc, &end)?, filled(alloc, want)?, "of {text}");
+        assert_eq!(rt; out.bytes(), printed.as_bytes(), "printed of {text}");
+    }
+    Ok(())
+}
+
+#[test]
+fn a_failed_read_or_write_is_told(rt: HostRuntime) -> Result<(), Fail> {
+    let alloc = rt.alloc();
+    let text = "point empty - 01040000\npoint empty - 01040000\n";
+    // The read and the write that fail, how the run ends, and what it printed by then.
+    let rows: [(&[u64], &[u64], &str, &str); 4] = [
+        (&[0], &[], "read", ""),
+        (&[5], &[], "read", "ok 0\n"),
+        (&[], &[0], "write", ""),
+        (&[], &[1], "write", "ok 0\n"),
+    ];
+    for (reads, writes, want, printed) in rows {
+        let mut input = source(alloc, text, reads)?;
+        let mut out = MemSink::new(alloc, Vec::from_slice(alloc, writes)?);
+        let end = verify(alloc, Branch::B16, &mut input, &mut out);
+        assert_eq!(rt;
+            words_of(alloc, &end)?.as_str(),
+            want,
+            "read {reads:?}, write {writes:?}"
+        );
+        assert_eq!(rt;
+            out.bytes(),
+            printed.as_bytes(),
+            "printed of {reads:?}, {writes:?}"
+        );
+    }
+    Ok(())
+}
