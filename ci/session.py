@@ -4,6 +4,7 @@ It follows docs/formats.md and docs/definitions.md and nothing of the program. A
 it was made on, and its own number. The store has a path too, the numbers that were committed.
 """
 from plain import KEY, VALUE, laid, payload, root_of
+from plain_proofs import ZERO, prove, spelled
 
 NUMBERS, DEPTH, WEIGHT = 1_000_000, 64, 268_435_456
 PAYLOAD, PAIRS = 33_554_432, 1_000_000
@@ -43,6 +44,17 @@ def place_of(word):
     return None if word == b"db" else number_of(word)
 
 
+def root_word(word):
+    """The words `now` and `empty` as they are, the number behind a `~`, or the bytes of a root."""
+    if word in (b"now", b"empty"):
+        return word
+    if word[:1] == b"~":
+        return number_of(word[1:])
+    if len(word) != 64:
+        raise BadLine
+    return bytes_of(word, 32)
+
+
 def hexed(some):
     return some.hex().encode() or b"-"
 
@@ -58,6 +70,7 @@ WORDS = {
     b"state": (number_of,),
     b"get": (place_of, lambda it: bytes_of(it, KEY)),
     b"root": (place_of,),
+    b"prove": (root_word, lambda it: bytes_of(it, KEY)),
 }
 
 
@@ -183,6 +196,18 @@ class Session:
     def do_root(self, place):
         why = None if place is None else self.refusal(place)
         return self.tell(b"refused", why) if why else self.tell(b"root", self.root(self.map_of(place)))
+
+    def named(self, root):
+        """The map that a ROOT names, or None. Held are the present map and the empty one."""
+        if root in (b"now", 0) or root == root_of(self.pairs, self.width):
+            return self.pairs
+        return {} if root in (b"empty", ZERO) else None
+
+    def do_prove(self, root, key):
+        pairs = self.named(root)
+        if pairs is None:
+            return self.tell(b"refused not held")
+        return self.tell(b"proof", hexed(spelled(prove(pairs, key, self.width), self.width)))
 
     def do(self, line):
         words = line.replace(b"\t", b" ").split(b" ")
