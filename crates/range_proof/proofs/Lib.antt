@@ -1,0 +1,4 @@
+pub mod KeysInRange
+pub mod Taken
+pub mod Reached
+pub mod Verified
