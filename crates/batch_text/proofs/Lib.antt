@@ -1,3 +1,4 @@
+mod BoundWords
 pub mod WordsOfLine
 pub mod Newlines
 pub mod HeldBytes

@@ -3,3 +3,4 @@ pub mod SeenLine
 pub mod WordsOfLine
 pub mod HexDigits
 pub mod PassedLines
+pub mod BoundWords

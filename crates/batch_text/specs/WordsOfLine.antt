@@ -23,3 +23,16 @@ IsOnlyWord (Some word) line = words_of line ≡ word.now ∷ []
 abbrev pub AreTwoWords : Option (Bor (List ℕ) × Bor (List ℕ)) → List ℕ → Type 0
 AreTwoWords None line = length (words_of line) ≢ 2
 AreTwoWords (Some words) line = words_of line ≡ words.0.now ∷ words.1.now ∷ []
+
+-- so of three words, of four, and of five
+abbrev pub AreThreeWords : Option (Bor (List ℕ) × Bor (List ℕ) × Bor (List ℕ)) → List ℕ → Type 0
+AreThreeWords None line = length (words_of line) ≢ 3
+AreThreeWords (Some (a, b, c)) line = words_of line ≡ a.now ∷ b.now ∷ c.now ∷ []
+
+abbrev pub AreFourWords : Option (Bor (List ℕ) × Bor (List ℕ) × Bor (List ℕ) × Bor (List ℕ)) → List ℕ → Type 0
+AreFourWords None line = length (words_of line) ≢ 4
+AreFourWords (Some (a, b, c, d)) line = words_of line ≡ a.now ∷ b.now ∷ c.now ∷ d.now ∷ []
+
+abbrev pub AreFiveWords : Option (Bor (List ℕ) × Bor (List ℕ) × Bor (List ℕ) × Bor (List ℕ) × Bor (List ℕ)) → List ℕ → Type 0
+AreFiveWords None line = length (words_of line) ≢ 5
+AreFiveWords (Some (a, b, c, d, e)) line = words_of line ≡ a.now ∷ b.now ∷ c.now ∷ d.now ∷ e.now ∷ []

@@ -4,9 +4,9 @@ ghost use Rattle.std.specs.List.{AllPass};
 ghost use Rattle.std.specs.Option.{ok_or};
 ghost use Rattle.std.specs.Result.{result_ok};
 ghost use Rattle.hex.specs.Hex.{decode_of, is_hex_digit};
-ghost use Rattle.text_model.specs.LineKind.{Hex};
+ghost use Rattle.text_model.specs.LineKind.{Hex, LongKey};
 ghost use Rattle.text_model.specs.Words.{hex_word};
-ghost use Rattle.text_model.specs.ReadLine.{key_word, value_word};
+ghost use Rattle.text_model.specs.ReadLine.{at_most, key_word, value_word};
 ghost use Rattle.batch_text.specs.SeenLine.{IsRead};
 
 use crate::digits::{are_digits, read_digits};
@@ -48,19 +48,20 @@ fn fault_of_long(digits: &[u8], long: LineKind) -> LineKind
     }
 }
 
-// Puts the bytes of the key that a word stands for at the front of the room, and says how many they are.
-fn read_key_bytes(word: &[u8], room: &mut [u8; KEY_LIMIT]) -> Result<usize, LineKind>
-    ensures read { IsRead (λ n. take n room.new) result (key_word word.now) }
-    ensures fits { IfOk result (λ n. n ≤ KEY_LIMIT) }
+/// Puts the bytes of the key or the bound that a word stands for at the front of a room that is as long as they
+/// may be, and says how many they are.
+pub(crate) fn read_short(word: &[u8], room: &mut [u8]) -> Result<usize, LineKind>
+    ensures read { IsRead (λ n. take n room.new) result (at_most (length room.old) LongKey (hex_word word.now)) }
+    ensures fits { IfOk result (λ n. n ≤ length room.old) }
     ensures told { IsErrOf result LineKind.NoMemory → ⊥ }
 {
     let Some(digits) = digits_of(word) else {
         return Err(LineKind::Hex);
     };
-    if digits.len() > 2 * KEY_LIMIT {
+    let count = digits.len() / 2;
+    if count > room.len() {
         return Err(fault_of_long(digits, LineKind::LongKey));
     }
-    let count = digits.len() / 2;
     if !read_digits(digits, &mut room[..count]) {
         return Err(LineKind::Hex);
     }
@@ -72,7 +73,7 @@ pub(crate) fn read_key(alloc: Global, word: &[u8]) -> Result<KeyBytes, LineKind>
     ensures { IsRead (λ key. key.items) result (key_word word.now) }
 {
     let mut room = [0u8; KEY_LIMIT];
-    let count = match read_key_bytes(word, &mut room) {
+    let count = match read_short(word, &mut room) {
         Ok(count) => count,
         Err(kind) => return Err(kind),
     };
@@ -113,7 +114,7 @@ pub fn read_key_word(word: &[u8]) -> Option<KeyWord>
     ensures { result ≡ result_ok (key_word word.now) }
 {
     let mut room = [0u8; KEY_LIMIT];
-    match read_key_bytes(word, &mut room) {
+    match read_short(word, &mut room) {
         Ok(count) => Some(KeyWord { room, count }),
         Err(_) => None,
     }

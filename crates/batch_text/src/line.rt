@@ -1,14 +1,17 @@
 // What a line asks for, read from its bytes.
 ghost use Rattle.std.specs.Prelude.{◌≡◌, ℕ, IfOk, IfErr, Ok};
-ghost use Rattle.text_model.specs.ReadLine.{Line as LineOf, one_word as words_of_one, two_words as words_of_two, three_words as words_of_three, put_line, del_line, number_line, place_line, get_line, prove_line, point_line, commit_words, script_words, verify_words, line_of_words, read_line as line_of};
-ghost use Rattle.text_model.specs.Words.{PlaceWord as PlaceOf, words_of};
+ghost use Rattle.text_model.specs.ReadLine.{Line as LineOf, one_word as words_of_one, two_words as words_of_two, three_words as words_of_three, four_words as words_of_four, five_words as words_of_five, put_line, del_line, number_line, place_line, get_line, prove_line, point_line, range_line, verify_range_line, commit_words, script_words, verify_words, line_of_words, read_line as line_of};
+ghost use Rattle.std.specs.Option.{ok_or};
+ghost use Rattle.text_model.specs.LineKind.{Bounds};
+ghost use Rattle.text_model.specs.Words.{PlaceWord as PlaceOf, words_of, range_between};
 ghost use Rattle.batch_text.specs.SeenLine.{seen_input, seen_place, seen_line, IsFaultOf, IsRead};
 
 use crate::hex_words::{read_hex, read_key, read_value};
-use crate::number_words::{PlaceWord, read_number, read_place};
+use crate::number_words::{PlaceWord, read_bytes_word, read_number, read_pairs_word, read_place};
+use crate::range_words::{BoundWord, RangeWord, read_bound};
 use crate::root_words::{RootWord, read_plain_root, read_root};
-use crate::words::{next_word, only_word, two_words};
-use bit_keys::Id;
+use crate::words::{five_words, four_words, next_word, only_word, two_words};
+use bit_keys::{Id, Range};
 use smallvec::SmallVec;
 use std::alloc::Global;
 
@@ -23,14 +26,14 @@ pub type KeyBytes = SmallVec<u8, 32>;
 pub enum InputKind {
     /// `put KEY VALUE` and `del KEY`.
     Batch,
-    /// These, `commit`, `view PLACE`, `take NUMBER`, `close NUMBER`, `state NUMBER`, `get PLACE KEY`, `root PLACE` and
-    /// `prove ROOT KEY`.
+    /// These, `commit`, `view PLACE`, `take NUMBER`, `close NUMBER`, `state NUMBER`, `get PLACE KEY`, `root PLACE`,
+    /// `prove ROOT KEY` and `range ROOT START END PAIRS BYTES`.
     Script,
-    /// `point ROOT KEY HEX`.
+    /// `point ROOT KEY HEX` and `range ROOT START END HEX`.
     Verify,
 }
 
-/// Why a line is not understood: the first of these down to `Count`, and then that of the leftmost word.
+/// Why a line is not understood: the first of these down to `Count`, then that of the leftmost word, and `Bounds` last.
 #[derive(Clone, Copy, Debug, PartialEq, Eq)]
 pub enum LineKind {
     /// It has more than 20,000,000 bytes.
@@ -41,17 +44,20 @@ pub enum LineKind {
     Count,
     /// A word that stands for bytes is not hexadecimal.
     Hex,
-    /// A key has more than 256 bytes.
+    /// A key has more than 256 bytes, or a bound of a range more than 257.
     LongKey,
     /// A value has more than 262,144 bytes.
     LongValue,
-    /// A word that stands for the number of a view is no decimal number of at most 64 bits.
+    /// A word that stands for a number is no decimal number of at most 64 bits, or asks for less or more of a range
+    /// than may be asked for.
     Number,
     /// A word that stands for the store or a view is neither `db` nor such a number.
     Place,
     /// A word that stands for a root is none: neither 64 hexadecimal digits nor, as its input has them, `empty`, `now`
     /// or `~` with such a number.
     Root,
+    /// The end of a range is below its start.
+    Bounds,
     /// There was no memory.
     NoMemory,
 }
@@ -115,6 +121,19 @@ pub enum Line {
     Point {
         root: Id,
         key: KeyBytes,
+        proof: Vec<u8>,
+    },
+    /// The proof of a range, in the map that a root names, with so many pairs and so many bytes of them at most.
+    RangeOf {
+        root: RootWord,
+        range: Range,
+        pairs: u32,
+        bytes: u32,
+    },
+    /// Whether bytes prove what every map with this root has in a range.
+    VerifyRange {
+        root: Id,
+        range: Range,
         proof: Vec<u8>,
     },
 }
@@ -226,6 +245,9 @@ fn read_script(alloc: Global, command: &[u8], rest: &[u8]) -> Result<Line, LineK
     if command == b"prove".as_slice() {
         return read_prove(alloc, rest);
     }
+    if command == b"range".as_slice() {
+        return read_range(alloc, rest);
+    }
     Err(LineKind::Word)
 }
 
@@ -283,12 +305,50 @@ fn read_prove(alloc: Global, rest: &[u8]) -> Result<Line, LineKind>
     Ok(Line::Prove { root, key })
 }
 
+// The range between two bounds.
+fn read_between(
+    alloc: Global,
+    start: Option<BoundWord>,
+    end: Option<BoundWord>,
+) -> Result<Range, LineKind>
+    ensures { IsRead (λ range. range) result (ok_or (range_between start end) Bounds) }
+{
+    let Some(range) = RangeWord::between(start, end) else {
+        return Err(LineKind::Bounds);
+    };
+    range.to_range(alloc).map_err(|_| LineKind::NoMemory)
+}
+
+// What follows `range` in a script.
+fn read_range(alloc: Global, rest: &[u8]) -> Result<Line, LineKind>
+    ensures { IsRead seen_line result (words_of_five range_line (words_of rest.now)) }
+{
+    let Some((root, start, end, pairs, bytes)) = five_words(rest) else {
+        return Err(LineKind::Count);
+    };
+    let root = read_root(root)?;
+    let start = read_bound(start)?;
+    let end = read_bound(end)?;
+    let pairs = read_pairs_word(pairs).ok_or(LineKind::Number)?;
+    let bytes = read_bytes_word(bytes).ok_or(LineKind::Number)?;
+    let range = read_between(alloc, start, end)?;
+    Ok(Line::RangeOf {
+        root,
+        range,
+        pairs,
+        bytes,
+    })
+}
+
 // A line of an input of proofs.
 fn read_verify(alloc: Global, command: &[u8], rest: &[u8]) -> Result<Line, LineKind>
     ensures { IsRead seen_line result (verify_words command.now (words_of rest.now)) }
 {
     if command == b"point".as_slice() {
         return read_point(alloc, rest);
+    }
+    if command == b"range".as_slice() {
+        return read_verify_range(alloc, rest);
     }
     Err(LineKind::Word)
 }
@@ -307,6 +367,21 @@ fn read_point(alloc: Global, rest: &[u8]) -> Result<Line, LineKind>
     let key = read_key(alloc, key)?;
     let proof = read_hex(alloc, proof)?;
     Ok(Line::Point { root, key, proof })
+}
+
+// What follows `range` in an input of proofs.
+fn read_verify_range(alloc: Global, rest: &[u8]) -> Result<Line, LineKind>
+    ensures { IsRead seen_line result (words_of_four verify_range_line (words_of rest.now)) }
+{
+    let Some((root, start, end, proof)) = four_words(rest) else {
+        return Err(LineKind::Count);
+    };
+    let root = read_plain_root(root)?;
+    let start = read_bound(start)?;
+    let end = read_bound(end)?;
+    let proof = read_hex(alloc, proof)?;
+    let range = read_between(alloc, start, end)?;
+    Ok(Line::VerifyRange { root, range, proof })
 }
 
 #[cfg(test)]

@@ -4,10 +4,16 @@ ghost use Rattle.std.specs.Char.{is_ascii_digit};
 ghost use Rattle.std.specs.List.{list_all};
 ghost use Rattle.std.specs.Option.{ok_or};
 ghost use Rattle.text_model.specs.LineKind.{Number, Place};
-ghost use Rattle.text_model.specs.Words.{is_numeral as is_numeral_of, number_word, place_word};
+ghost use Rattle.text_model.specs.Words.{is_numeral as is_numeral_of, number_word, place_word, count_word, most_pairs, most_bytes};
 ghost use Rattle.batch_text.specs.SeenLine.{seen_place, IsRead};
 
 use crate::line::LineKind;
+
+/// The most pairs of a range that may be asked for.
+const MOST_PAIRS: u32 = 4_096;
+
+/// The most bytes of them.
+const MOST_BYTES: u32 = 2_097_152;
 
 /// What a line of a script speaks of.
 #[derive(Clone, Copy, Debug, PartialEq, Eq)]
@@ -69,4 +75,29 @@ pub(crate) fn read_place(word: &[u8]) -> Result<PlaceWord, LineKind>
         Some(number) => Ok(PlaceWord::View(number)),
         None => Err(LineKind::Place),
     }
+}
+
+// The number from 1 to a limit that a word stands for.
+fn read_count(word: &[u8], limit: u32) -> Option<u32>
+    ensures { result ≡ count_word limit word.now }
+{
+    let number = read_number_word(word)?;
+    if number < 1 || number > limit as u64 {
+        return None;
+    }
+    Some(number as u32)
+}
+
+/// How many pairs a word asks for: 1 to 4,096; None where it asks for none such.
+pub fn read_pairs_word(word: &[u8]) -> Option<u32>
+    ensures { result ≡ count_word most_pairs word.now }
+{
+    read_count(word, MOST_PAIRS)
+}
+
+/// How many bytes a word asks for: 1 to 2,097,152; None where it asks for none such.
+pub fn read_bytes_word(word: &[u8]) -> Option<u32>
+    ensures { result ≡ count_word most_bytes word.now }
+{
+    read_count(word, MOST_BYTES)
 }

@@ -1,7 +1,7 @@
 // The words at the front of a line.
 ghost use Rattle.std.specs.Prelude.{◌≡◌, ◌<◌, IfSome, IfNone, length, take, slice_index, false, true};
 ghost use Rattle.text_model.specs.Words.{is_blank};
-ghost use Rattle.batch_text.specs.WordsOfLine.{IsNextWord, IsOnlyWord, AreTwoWords, AreBlanks, HasNoBlank};
+ghost use Rattle.batch_text.specs.WordsOfLine.{IsNextWord, IsOnlyWord, AreTwoWords, AreThreeWords, AreFourWords, AreFiveWords, AreBlanks, HasNoBlank};
 
 use memchr::memchr2;
 
@@ -55,4 +55,31 @@ pub(crate) fn two_words(line: &[u8]) -> Option<(&[u8], &[u8])>
     let (first, rest) = next_word(line)?;
     let second = only_word(rest)?;
     Some((first, second))
+}
+
+/// The words of a line that has exactly three.
+pub(crate) fn three_words(line: &[u8]) -> Option<(&[u8], &[u8], &[u8])>
+    ensures { AreThreeWords result line.now }
+{
+    let (first, rest) = next_word(line)?;
+    let (second, third) = two_words(rest)?;
+    Some((first, second, third))
+}
+
+/// The words of a line that has exactly four.
+pub(crate) fn four_words(line: &[u8]) -> Option<(&[u8], &[u8], &[u8], &[u8])>
+    ensures { AreFourWords result line.now }
+{
+    let (first, rest) = next_word(line)?;
+    let (second, third, fourth) = three_words(rest)?;
+    Some((first, second, third, fourth))
+}
+
+/// The words of a line that has exactly five.
+pub(crate) fn five_words(line: &[u8]) -> Option<(&[u8], &[u8], &[u8], &[u8], &[u8])>
+    ensures { AreFiveWords result line.now }
+{
+    let (first, rest) = next_word(line)?;
+    let (second, third, fourth, fifth) = four_words(rest)?;
+    Some((first, second, third, fourth, fifth))
 }

@@ -10,18 +10,23 @@ use Rattle.text_model.specs.FirstBad.{first_told}
 use Rattle.text_model.specs.Lines.{input_limit, settled_lines, lines_within}
 use Rattle.text_model.specs.Texts.{Input}
 use Rattle.text_model.specs.Laws.{TellsOverlong}
-use Rattle.text_model.proofs.PointLines.{point_lines_are_within}
+use Rattle.range_model.specs.Ranges.{Range}
+use Rattle.text_model.specs.ReadLine.{Verify, Point, VerifyRange, read_line}
+use Rattle.text_model.proofs.PointLines.{point_lines_are_within, range_lines_are_within}
 use Rattle.text_model.proofs.SettledLines.{told_within, past_limit, whole_lines}
-use Rattle.proof_model.specs.Paths.{ProofNode, IsProofNode}
 use Rattle.proof_model.specs.Proofs.{PointProof}
-use Rattle.proof_model.specs.Checked.{Cause, unless_refused, checked, point_checked}
+use Rattle.proof_model.specs.Checked.{Cause, unless_refused, checked, point_checked, range_checked}
 use Rattle.proof_model.specs.Refusals.{Refusal, point_refusal}
-use Rattle.proof_model.specs.Laws.{ReadPointsAreSpelled}
+use Rattle.proof_model.specs.RangeProofs.{RangeProof, range_refusal}
+use Rattle.proof_model.specs.RangeLaws.{AcceptedRangesAreTrue}
+use Rattle.proof_model.specs.RangeWire.{range_of}
+use Rattle.proof_model.specs.Laws.{ReadPointsAreSpelled, ReadRangesAreSpelled}
 use Rattle.proof_model.specs.Sound.{AcceptedPointsAreTrue}
-use Rattle.proof_model.specs.Wire.{WireFault, IsPathNode, point_of}
+use Rattle.proof_model.specs.Wire.{WireFault, point_of}
 use Rattle.run_model.specs.End.{End, BadLine, Limit}
 use Rattle.run_model.specs.Laws.{DecidedVerifyStays, UndecidedVerifyFinishes, PassedLinesAreTrue}
-use Rattle.run_model.specs.Verify.{proof_verdict, read_verdict, verdict, line_end, passed, end_decided, verify_outcome, IsTrueLine}
+use Rattle.run_model.specs.Verify.{proof_verdict, range_verdict, read_verdict, verdict, line_end, passed, end_decided, verify_outcome, ShowsTruth, ShowsTrueRange, IsTrueLine}
+use Rattle.run_model.proofs.ReadRanges.{nodes_of_path, spelled_claim}
 
 -- ---- what is decided
 
@@ -78,28 +83,56 @@ accepted_point : (w : ℕ) (want key bytes : List ℕ) (p : PointProof) → poin
 unfolding point_checked
 accepted_point w want key bytes p h = accepted (point_refusal w key want) (point_of limits w bytes) p h
 
-nodes_of_path : (w : ℕ) (ns : List ProofNode) → AllByRecursion (IsPathNode limits w) ns → AllByRecursion (IsProofNode w) ns
-nodes_of_path w [] h = tt
-nodes_of_path w (n ∷ ns) h = (h.0.node, nodes_of_path w ns h.1)
-
 -- a proof that passes
 passes_with : (w : ℕ) (want key bytes : List ℕ) (r : Result PointProof Cause) → point_checked limits w want key bytes ≡ r → is_ok (proof_verdict r) ≡ true → (p : PointProof) × (point_checked limits w want key bytes ≡ Ok p)
 passes_with w want key bytes (Ok p) is ok = (p, is)
 passes_with w want key bytes (Err why) is ok = let no : ⊥ = cc ok in absurd no
 
-module _ (sound : AcceptedPointsAreTrue) (spelled : ReadPointsAreSpelled) (w : ℕ) (ww : IsWidth w) where
-  true_line : (line : List ℕ) → is_ok (verdict w line) ≡ true → IsTrueLine w line
-  true_line line ok want key bytes read =
+accepted_range : (w : ℕ) (want : List ℕ) (asked : Range) (bytes : List ℕ) (p : RangeProof) → range_checked limits w want asked bytes ≡ Ok p → (range_of limits w bytes ≡ Ok p) × (range_refusal w asked want p ≡ None)
+unfolding range_checked
+accepted_range w want asked bytes p h = accepted (range_refusal w asked want) (range_of limits w bytes) p h
+
+passes_with_range : (w : ℕ) (want : List ℕ) (asked : Range) (bytes : List ℕ) (r : Result RangeProof Cause) → range_checked limits w want asked bytes ≡ r → is_ok (range_verdict r) ≡ true → (p : RangeProof) × (range_checked limits w want asked bytes ≡ Ok p)
+passes_with_range w want asked bytes (Ok p) is ok = (p, is)
+passes_with_range w want asked bytes (Err why) is ok = let no : ⊥ = cc ok in absurd no
+
+-- what the proofs that are accepted prove, and how those are spelled that are read
+pub record Sound : Type 0 where
+  pub points : AcceptedPointsAreTrue
+  pub points_read : ReadPointsAreSpelled
+  pub ranges : AcceptedRangesAreTrue
+  pub ranges_read : ReadRangesAreSpelled
+
+module _ (sound : Sound) (w : ℕ) (ww : IsWidth w) where
+  true_point : (line : List ℕ) → is_ok (verdict w line) ≡ true → (want key bytes : List ℕ) → read_line Verify line ≡ Ok (Point want key bytes) → ShowsTruth w want key bytes
+  true_point line ok want key bytes read =
       let within = point_lines_are_within line want key bytes read in
       let passes : is_ok (proof_verdict (point_checked limits w want key bytes)) ≡ true = sym (ap (λ r. is_ok (read_verdict w r)) read) ∙ ok in
       let p = passes_with w want key bytes (point_checked limits w want key bytes) refl passes in
       let a = accepted_point w want key bytes p.0 p.1 in
-      let nodes = nodes_of_path w p.0.path (spelled limits w bytes p.0 within.proof_bytes a.0).0.path.nodes in
+      let nodes = nodes_of_path w p.0.path (sound.points_read limits w bytes p.0 within.proof_bytes a.0).0.path.nodes in
       record {
         proof = p.0;
         accepted = p.1;
-        is_true = λ m is_map e. sound limits w key p.0 m ww within.key_bytes within.key_short nodes is_map (ap (λ r. point_refusal w key r p.0) e ∙ a.1);
+        is_true = λ m is_map e. sound.points limits w key p.0 m ww within.key_bytes within.key_short nodes is_map (ap (λ r. point_refusal w key r p.0) e ∙ a.1);
       }
+
+  true_range : (line : List ℕ) → is_ok (verdict w line) ≡ true → (want : List ℕ) (asked : Range) (bytes : List ℕ) → read_line Verify line ≡ Ok (VerifyRange want asked bytes) → ShowsTrueRange w want asked bytes
+  true_range line ok want asked bytes read =
+      let within = range_lines_are_within line want asked bytes read in
+      let passes : is_ok (range_verdict (range_checked limits w want asked bytes)) ≡ true = sym (ap (λ r. is_ok (read_verdict w r)) read) ∙ ok in
+      let p = passes_with_range w want asked bytes (range_checked limits w want asked bytes) refl passes in
+      let a = accepted_range w want asked bytes p.0 p.1 in
+      let spelled = sound.ranges_read limits w bytes p.0 within.proof_bytes a.0 in
+      let claim = spelled_claim w p.0 bytes within.proof_bytes spelled.0 spelled.1 in
+      record {
+        proof = p.0;
+        accepted = p.1;
+        is_true = λ m is_map e. sound.ranges limits w asked p.0 m ww within.range claim is_map (ap (λ r. range_refusal w asked r p.0) e ∙ a.1);
+      }
+
+  true_line : (line : List ℕ) → is_ok (verdict w line) ≡ true → IsTrueLine w line
+  true_line line ok = record { point = true_point line ok; range = true_range line ok }
 
   pub true_lines : (lines : List (List ℕ)) → AllByRecursion (IsTrueLine w) (passed w lines)
   true_lines [] = tt
@@ -109,5 +142,5 @@ module _ (sound : AcceptedPointsAreTrue) (spelled : ReadPointsAreSpelled) (w : �
       go true ok later = (true_line line ok, later)
       go false bad later = tt
 
-pub passed_lines_are_true : AcceptedPointsAreTrue → ReadPointsAreSpelled → PassedLinesAreTrue
-passed_lines_are_true sound spelled w lines ww = true_lines sound spelled w ww lines
+pub passed_lines_are_true : Sound → PassedLinesAreTrue
+passed_lines_are_true sound w lines ww = true_lines sound w ww lines

@@ -1,5 +1,5 @@
 -- The worked runs, by computing.
-use Rattle.std.proofs.Common.{◌≡◌, ℕ, List, [], ◌∷◌, ◌++◌, length, map, replicate, refl, sym, ap, ◌∙◌, Result, Ok, arith}
+use Rattle.std.proofs.Common.{◌≡◌, ℕ, List, [], ◌∷◌, ◌++◌, length, map, replicate, option_map, refl, sym, ap, ◌∙◌, Result, Ok, arith}
 use Rattle.std.specs.Prelude.{codes}
 use Rattle.std.specs.FinMap.{empty, entries, entries-insert, len-entries, len-empty}
 use Rattle.std.specs.FinMap.Entries.{put, where_key}
@@ -16,15 +16,22 @@ use Rattle.text_model.specs.Lines.{input_limit, lines_within}
 use Rattle.text_model.specs.LineKind.{LineKind}
 use Rattle.text_model.specs.ReadLine.{Batch, Line, Put, Del, read_line}
 use Rattle.text_model.specs.MapOfLines.{after_read, after_lines, map_of_lines}
-use Rattle.text_model.specs.Texts.{root_text}
-use Rattle.proof_model.specs.Checked.{point_checked}
+use Rattle.text_model.specs.Texts.{root_text, range_text}
+use Rattle.proof_model.specs.Checked.{point_checked, range_checked}
+use Rattle.proof_model.specs.RangeWire.{range_of, pair_at, listed_at, pairs_at}
 use Rattle.proof_model.specs.Claims.{claim_items}
 use Rattle.proof_model.specs.Refusals.{refusal, path_refusal}
-use Rattle.proof_model.specs.Wire.{point_of, head_at, byte_at, maybe_at, path_at, nodes_at, all_read}
+use Rattle.proof_model.specs.Wire.{point_of, sized_at, head_at, byte_at, maybe_at, path_at, nodes_at, all_read}
 use Rattle.base_model.specs.Fields.{bytes_at, flag_at, number_at}
 use Rattle.base_model.specs.ReadUvarint.{uvarint_read}
 use Rattle.std.specs.Fmt.{digits}
-use Rattle.run_model.specs.Worked.{prints, PrintsOnePair, PrintsZeros, OnePairRuns, EmptyRuns, WrongWordRuns, WrongLineRuns, KeyLimitRuns, VerifyRuns}
+use Rattle.range_model.specs.Ranges.{everything}
+use Rattle.session_model.specs.Named.{range_proof_of}
+use Rattle.session_model.proofs.NamedMaps.{by_zeros}
+use Rattle.session_model.proofs.WorkedScripts.{empty_range}
+use Rattle.run_model.specs.Outcome.{Outcome}
+use Rattle.run_model.specs.Range.{range_proof_outcome}
+use Rattle.run_model.specs.Worked.{prints, PrintsOnePair, PrintsZeros, OnePairRuns, EmptyRuns, WrongWordRuns, WrongLineRuns, KeyLimitRuns, VerifyRuns, VerifyRangeRuns, RangeRuns}
 
 -- ---- the pairs that lines make, as a list that computes
 abbrev pairs_after : List (List ℕ × List ℕ) → Result Line LineKind → List (List ℕ × List ℕ)
@@ -102,7 +109,7 @@ empty_runs = (prints_zeros (lines_of []) refl, prints_zeros (lines_of (codes "\n
 
 pub wrong_word_runs : WrongWordRuns
 unfolding decode_pairs
-wrong_word_runs found bytes = (refl, refl, refl, refl, refl, refl, refl, refl, refl, refl, refl, refl, refl, refl, refl, refl, refl, refl, refl, refl, refl)
+wrong_word_runs found bytes = (refl, refl, refl, refl, refl, refl, refl, refl, refl, refl, refl, refl, refl, refl, refl, refl, refl, refl, refl, refl, refl, refl, refl, refl, refl, refl, refl, refl, refl, refl, refl, refl)
 
 pub wrong_line_runs : WrongLineRuns
 unfolding decode_pairs
@@ -115,3 +122,19 @@ key_limit_runs = (prints_zeros (lines_of (codes "del " ++ replicate 512 0x30)) r
 pub verify_runs : VerifyRuns
 unfolding decode_pairs point_checked point_of head_at byte_at bytes_at maybe_at flag_at path_at number_at uvarint_read nodes_at all_read refusal path_refusal claim_items id id_within zero_id digits
 verify_runs = (refl, refl, refl)
+
+pub verify_range_runs : VerifyRangeRuns
+unfolding decode_pairs point_checked point_of range_checked range_of pairs_at listed_at pair_at sized_at head_at byte_at bytes_at maybe_at flag_at path_at number_at uvarint_read nodes_at all_read refusal path_refusal claim_items id id_within zero_id digits
+verify_range_runs = (refl, refl, refl, refl)
+
+-- the line of the proof that the empty map has no keys
+empty_text : List ℕ → Outcome
+empty_text bytes = prints (range_text bytes)
+
+empty_printed : empty_text (range_proof_of 4 everything 1 1 empty) ≡ prints (codes "range 010100000000\n")
+unfolding encode_with empty_text
+empty_printed = ap empty_text empty_range
+
+pub range_runs : RangeRuns
+unfolding decode_pairs empty_text
+range_runs = (ap (λ found. range_proof_outcome (option_map (range_proof_of 4 everything 1 1) found)) by_zeros ∙ empty_printed, empty_printed, refl)

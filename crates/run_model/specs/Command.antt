@@ -2,8 +2,9 @@
 use Rattle.std.specs.Prelude.{ℕ, suc, Bool, true, false, if◌then◌else◌, List, [], ◌∷◌, codes, Option, Some, None, Result, Ok, Err}
 use Rattle.std.specs.Str.{bytes_eq}
 use Rattle.std.specs.Result.{result_ok}
-use Rattle.text_model.specs.ReadLine.{key_word}
-use Rattle.text_model.specs.Words.{RootWord, root_word}
+use Rattle.range_model.specs.Ranges.{Range as Bounds}
+use Rattle.text_model.specs.ReadLine.{key_word, bound_word}
+use Rattle.text_model.specs.Words.{RootWord, root_word, most_pairs, most_bytes, count_word, range_between}
 
 -- a command, with what its own words say
 pub data Command : Type 0 where
@@ -15,6 +16,8 @@ pub data Command : Type 0 where
   Get : List ℕ → Command
   -- the proof of a key, in the map that a root names
   Prove : RootWord → List ℕ → Command
+  -- the proof of a range, in the map that a root names, with so many pairs and so many bytes of them at most
+  Range : RootWord → Bounds → ℕ → ℕ → Command
   -- whether the proofs of the input are accepted
   Verify : Command
 
@@ -24,11 +27,13 @@ uses_store Root = false
 uses_store Apply = true
 uses_store (Get key) = true
 uses_store (Prove root key) = true
+uses_store (Range root asked pairs bytes) = true
 uses_store Verify = false
 
 -- whether a command names a map, which the store may not have
 abbrev pub names_map : Command → Bool
 names_map (Prove root key) = true
+names_map (Range root asked pairs bytes) = true
 names_map other = false
 
 -- whether a command checks proofs
@@ -89,6 +94,30 @@ abbrev pub prove_words : List (List ℕ) → Result Command ℕ
 prove_words [] = Err 4
 prove_words (word ∷ words) = with_word 4 (root_word word) (λ root. key_words 5 (Prove root) words)
 
+-- a word that is read so stands at this place, and others behind it
+abbrev pub word_then : {A : Type 0} → ℕ → (List ℕ → Option A) → (A → List (List ℕ) → Result Command ℕ) → List (List ℕ) → Result Command ℕ
+word_then place read behind [] = Err place
+word_then place read behind (word ∷ words) = with_word place (read word) (λ x. behind x words)
+
+-- the range between a start and an end that was read, unless that is below the start
+abbrev pub range_to : Option (List ℕ) → Option (Option (List ℕ)) → Option Bounds
+range_to start None = None
+range_to start (Some end) = range_between start end
+
+-- the range from a start to the end that a word stands for
+abbrev pub end_word : Option (List ℕ) → List ℕ → Option Bounds
+end_word start word = range_to start (result_ok (bound_word word))
+
+-- `range` has a root, a start, an end that is not below it, and how many pairs and bytes of them
+abbrev pub range_words : List (List ℕ) → Result Command ℕ
+range_words =
+    word_then 4 root_word (λ root.
+    word_then 5 (λ word. result_ok (bound_word word)) (λ start.
+    word_then 6 (end_word start) (λ asked.
+    word_then 7 (count_word most_pairs) (λ pairs.
+    word_then 8 (count_word most_bytes) (λ bytes.
+    no_more 9 (Range root asked pairs bytes))))))
+
 -- where a store is used, word 1 is its folder, and not `-`
 abbrev pub in_folder : List ℕ → Result Job ℕ → Result Job ℕ
 in_folder folder job = if bytes_eq folder (codes "-") then Err 1 else job
@@ -101,6 +130,7 @@ command_words folder (command ∷ words) =
     else if bytes_eq command (codes "apply") then in_folder folder (job_words (no_words Apply) words)
     else if bytes_eq command (codes "get") then in_folder folder (job_words get_words words)
     else if bytes_eq command (codes "prove") then in_folder folder (job_words prove_words words)
+    else if bytes_eq command (codes "range") then in_folder folder (job_words range_words words)
     else if bytes_eq command (codes "verify") then job_words (no_words Verify) words
     else Err 2
 

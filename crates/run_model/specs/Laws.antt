@@ -1,8 +1,12 @@
--- Laws of what the first bytes of an input decide, and of what the lines of `verify` tell.
-use Rattle.std.specs.Prelude.{◌≡◌, ℕ, List, ◌++◌, Some, None}
+-- Laws of what the first bytes of an input decide, of what the lines of `verify` tell, and of what words ask for.
+use Rattle.std.specs.Prelude.{◌≡◌, ℕ, List, ◌++◌, Some, None, Ok}
 use Rattle.std.specs.List.{AllByRecursion}
 use Rattle.trie_model.specs.Bits.{IsWidth}
+use Rattle.range_model.specs.Ranges.{Range as Bounds}
+use Rattle.text_model.specs.Laws.{IsAskedRange}
 use Rattle.text_model.specs.Lines.{AreWholeLines}
+use Rattle.text_model.specs.Words.{RootWord}
+use Rattle.run_model.specs.Command.{Range, job_of}
 use Rattle.run_model.specs.End.{End, Done}
 use Rattle.run_model.specs.Outcome.{Outcome}
 use Rattle.run_model.specs.Root.{root_outcome, root_decided}
@@ -27,3 +31,7 @@ UndecidedVerifyFinishes = (w : ℕ) (front : List ℕ) → verify_decided w fron
 -- lines that pass are true, each of them
 abbrev pub PassedLinesAreTrue : Type 0
 PassedLinesAreTrue = (w : ℕ) (lines : List (List ℕ)) → IsWidth w → AllByRecursion (IsTrueLine w) (passed w lines)
+
+-- what words ask for of a range is within the limits
+abbrev pub RangeWordsAreWithin : Type 0
+RangeWordsAreWithin = (given : List (List ℕ)) (w : ℕ) (root : RootWord) (asked : Bounds) (pairs bytes : ℕ) → job_of given ≡ Ok (record { width = w; command = Range root asked pairs bytes }) → IsAskedRange asked pairs bytes

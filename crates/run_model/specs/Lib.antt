@@ -9,6 +9,7 @@ pub mod Apply
 pub mod Reading
 pub mod Get
 pub mod Prove
+pub mod Range
 pub mod Verify
 pub mod Runs
 pub mod Laws

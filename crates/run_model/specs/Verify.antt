@@ -5,14 +5,17 @@ use Rattle.std.specs.List.{flat_map, AllByRecursion}
 use Rattle.base_model.specs.Streams.{AtEnd}
 use Rattle.trie_model.specs.Maps.{Map, IsMap, limits, root, map_strings}
 use Rattle.trie_model.specs.Strings.{Break}
+use Rattle.range_model.specs.Ranges.{Range}
 use Rattle.text_model.specs.FirstBad.{first_told}
 use Rattle.text_model.specs.LineKind.{LineKind}
 use Rattle.text_model.specs.Lines.{input_limit, settled_lines, lines_within}
-use Rattle.text_model.specs.ReadLine.{Verify, Line, Point, read_line}
+use Rattle.text_model.specs.ReadLine.{Verify, Line, Point, VerifyRange, read_line}
 use Rattle.text_model.specs.Texts.{LimitKind, Input, ok_text}
 use Rattle.proof_model.specs.Claims.{claim_strings, point_claim}
 use Rattle.proof_model.specs.Proofs.{PointProof}
-use Rattle.proof_model.specs.Checked.{Cause, point_checked}
+use Rattle.proof_model.specs.RangeProofs.{RangeProof, pairs_in, reached_range}
+use Rattle.proof_model.specs.RangeLaws.{RangeBreak}
+use Rattle.proof_model.specs.Checked.{Cause, point_checked, range_checked}
 use Rattle.run_model.specs.Outside.{Outside}
 use Rattle.run_model.specs.End.{End, Done, BadLine, VerifyRefused, Limit, Read}
 use Rattle.run_model.specs.Outcome.{Outcome, EndsAs, Prints, PrintsPrefix, IsUndecided}
@@ -34,10 +37,16 @@ abbrev pub proof_verdict : Result PointProof Cause → Result (List ℕ) Fault
 proof_verdict (Ok p) = Ok (ok_text (pairs_shown p.value))
 proof_verdict (Err cause) = Err (Refused cause)
 
+-- so of a line whose range proof was checked
+abbrev pub range_verdict : Result RangeProof Cause → Result (List ℕ) Fault
+range_verdict (Ok p) = Ok (ok_text (length p.pairs))
+range_verdict (Err cause) = Err (Refused cause)
+
 -- what a line prints that was read, with tokens of w bits. Lines that tell of no proof print nothing
 abbrev pub read_verdict : ℕ → Result Line LineKind → Result (List ℕ) Fault
 read_verdict w (Err kind) = Err NotUnderstood
 read_verdict w (Ok (Point want key bytes)) = proof_verdict (point_checked limits w want key bytes)
+read_verdict w (Ok (VerifyRange want asked bytes)) = range_verdict (range_checked limits w want asked bytes)
 read_verdict w (Ok other) = Ok []
 
 -- what a line prints, or why it does not pass
@@ -102,15 +111,26 @@ verify_decided w front = end_decided (first_told (line_end w) 1 (settled_lines (
 abbrev pub IsTrueOfMaps : ℕ → List ℕ → List ℕ → PointProof → Type 0
 IsTrueOfMaps w want key p = (m : Map) → IsMap limits m → root w m ≡ want → Break (claim_strings w (point_claim key p)) (map_strings w m) ⊎ (map_of.get m key ≡ p.value)
 
+-- the pairs of a range proof are all that every map with this root has up to where they reach, or SHA-256 is broken so
+abbrev pub IsTrueRange : ℕ → List ℕ → Range → RangeProof → Type 0
+IsTrueRange w want asked p = (m : Map) → IsMap limits m → root w m ≡ want → RangeBreak w asked p m ⊎ (p.pairs ≡ pairs_in m (reached_range asked p.cut p.pairs))
+
 -- a line tells of a proof that is accepted, and what this shows is so
 pub record ShowsTruth (w : ℕ) (want key bytes : List ℕ) : Type 0 where
   pub proof : PointProof
   pub accepted : point_checked limits w want key bytes ≡ Ok proof
   pub is_true : IsTrueOfMaps w want key proof
 
+-- so of a range proof
+pub record ShowsTrueRange (w : ℕ) (want : List ℕ) (asked : Range) (bytes : List ℕ) : Type 0 where
+  pub proof : RangeProof
+  pub accepted : range_checked limits w want asked bytes ≡ Ok proof
+  pub is_true : IsTrueRange w want asked proof
+
 -- whatever proof a line tells of, that is so
-abbrev pub IsTrueLine : ℕ → List ℕ → Type 0
-IsTrueLine w line = (want key bytes : List ℕ) → read_line Verify line ≡ Ok (Point want key bytes) → ShowsTruth w want key bytes
+pub record IsTrueLine (w : ℕ) (line : List ℕ) : Type 0 where
+  pub point : (want key bytes : List ℕ) → read_line Verify line ≡ Ok (Point want key bytes) → ShowsTruth w want key bytes
+  pub range : (want : List ℕ) (asked : Range) (bytes : List ℕ) → read_line Verify line ≡ Ok (VerifyRange want asked bytes) → ShowsTrueRange w want asked bytes
 
 -- ---- a run
 

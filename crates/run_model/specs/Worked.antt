@@ -6,9 +6,10 @@ use Rattle.sha2.specs.Sha256.{sha256}
 use Rattle.hex.specs.Hex.{encode_lower}
 use Rattle.trie_model.specs.Maps.{Map}
 use Rattle.store_model.specs.Refusals.{Refusal}
-use Rattle.proof_model.specs.Checked.{NotRead}
+use Rattle.proof_model.specs.Checked.{NotRead, NotAccepted}
+use Rattle.proof_model.specs.Refusals.{Unsorted}
 use Rattle.proof_model.specs.Wire.{Flag}
-use Rattle.run_model.specs.End.{Done, BadWords, BadLine, VerifyRefused}
+use Rattle.run_model.specs.End.{Done, BadWords, BadLine, VerifyRefused, NotHeld}
 use Rattle.run_model.specs.Outcome.{Outcome, silent}
 use Rattle.run_model.specs.Runs.{outcome}
 
@@ -53,6 +54,10 @@ EmptyRuns =
     × PrintsZeros (root_16 (codes "\n"))
     × PrintsZeros (root_16 (codes "put 6b 76\ndel 6b"))
 
+-- the words of `range` at factor 16, with these of its own
+abbrev pub ranging : List (List ℕ) → List (List ℕ)
+ranging own = codes "range" ∷ codes "16" ∷ own
+
 -- words outside the grammar, whatever the input and the files are
 abbrev pub WrongWordRuns : Type 0
 WrongWordRuns =
@@ -75,13 +80,27 @@ WrongWordRuns =
     × (outcome (codes "D" ∷ codes "get" ∷ codes "16" ∷ codes "6" ∷ []) found bytes ≡ silent (BadWords 4))
     × (outcome (codes "D" ∷ codes "get" ∷ codes "16" ∷ codes "6b" ∷ codes "6b" ∷ []) found bytes ≡ silent (BadWords 5))
     × (outcome (codes "D" ∷ codes "get" ∷ codes "16" ∷ codes "6" ∷ codes "6b" ∷ []) found bytes ≡ silent (BadWords 4))
-    -- `prove` has a root and a key, and `verify` no words of its own
+    -- `prove` has a root and a key
     × (outcome (codes "-" ∷ codes "prove" ∷ codes "16" ∷ codes "now" ∷ codes "6b" ∷ []) found bytes ≡ silent (BadWords 1))
     × (outcome (codes "D" ∷ codes "prove" ∷ codes "16" ∷ []) found bytes ≡ silent (BadWords 4))
     × (outcome (codes "D" ∷ codes "prove" ∷ codes "16" ∷ codes "Now" ∷ codes "6" ∷ []) found bytes ≡ silent (BadWords 4))
     × (outcome (codes "D" ∷ codes "prove" ∷ codes "16" ∷ codes "~1" ∷ []) found bytes ≡ silent (BadWords 5))
     × (outcome (codes "D" ∷ codes "prove" ∷ codes "16" ∷ codes "empty" ∷ codes "6" ∷ []) found bytes ≡ silent (BadWords 5))
     × (outcome (codes "D" ∷ codes "prove" ∷ codes "16" ∷ codes "now" ∷ codes "6b" ∷ codes "6b" ∷ []) found bytes ≡ silent (BadWords 6))
+    -- `range` has a root, a start, an end that is not below it, and two numbers within limits
+    × (outcome (codes "-" ∷ ranging (codes "now" ∷ codes "*" ∷ codes "*" ∷ codes "1" ∷ codes "1" ∷ [])) found bytes ≡ silent (BadWords 1))
+    × (outcome (codes "D" ∷ ranging []) found bytes ≡ silent (BadWords 4))
+    × (outcome (codes "D" ∷ ranging (codes "db" ∷ codes "**" ∷ [])) found bytes ≡ silent (BadWords 4))
+    × (outcome (codes "D" ∷ ranging (codes "now" ∷ codes "**" ∷ codes "0" ∷ [])) found bytes ≡ silent (BadWords 5))
+    × (outcome (codes "D" ∷ ranging (codes "now" ∷ codes "0b" ∷ codes "0" ∷ [])) found bytes ≡ silent (BadWords 6))
+    -- an end below its start is told before what stands behind it
+    × (outcome (codes "D" ∷ ranging (codes "now" ∷ codes "0b" ∷ codes "0a" ∷ codes "0" ∷ codes "1" ∷ [])) found bytes ≡ silent (BadWords 6))
+    × (outcome (codes "D" ∷ ranging (codes "now" ∷ codes "0a" ∷ codes "0a" ∷ [])) found bytes ≡ silent (BadWords 7))
+    × (outcome (codes "D" ∷ ranging (codes "now" ∷ codes "*" ∷ codes "0a" ∷ codes "0" ∷ codes "0" ∷ [])) found bytes ≡ silent (BadWords 7))
+    × (outcome (codes "D" ∷ ranging (codes "now" ∷ codes "*" ∷ codes "*" ∷ codes "4097" ∷ codes "1" ∷ [])) found bytes ≡ silent (BadWords 7))
+    × (outcome (codes "D" ∷ ranging (codes "now" ∷ codes "*" ∷ codes "*" ∷ codes "4096" ∷ codes "2097153" ∷ [])) found bytes ≡ silent (BadWords 8))
+    × (outcome (codes "D" ∷ ranging (codes "now" ∷ codes "*" ∷ codes "*" ∷ codes "4096" ∷ codes "2097152" ∷ codes "1" ∷ [])) found bytes ≡ silent (BadWords 9))
+    -- `verify` has no words of its own
     × (outcome (codes "-" ∷ codes "verify" ∷ codes "16" ∷ codes "now" ∷ []) found bytes ≡ silent (BadWords 4))
 
 -- inputs with a line outside the grammar
@@ -124,3 +143,19 @@ VerifyRuns =
     (verify_16 (codes "point empty 6b 01040000\n# x\npoint empty - 01040000") ≡ prints (codes "ok 0\nok 0\n"))
     × (verify_16 (codes "point empty 6b 01040000\nput 6b 76\n") ≡ record { end = BadLine 2; text = codes "ok 0\n" })
     × (verify_16 (codes "point empty 6b 01040000\n\npoint empty 6b 010402\nx\n") ≡ record { end = VerifyRefused 3 (NotRead (record { at = 2; kind = Flag })); text = codes "ok 0\n" })
+
+-- so of range proofs: that the empty map has nothing at all is shown by no node. Pairs that are not in order are refused, and so are bytes that are no proof
+abbrev pub VerifyRangeRuns : Type 0
+VerifyRangeRuns =
+    (verify_16 (codes "range empty * * 010100000000\npoint empty - 01040000\nrange empty - ff 010100000000\n") ≡ prints (codes "ok 0\nok 0\nok 0\n"))
+    × (verify_16 (codes "range empty * * 010100000000\nrange empty 0b 0a 010100000000\n") ≡ record { end = BadLine 2; text = codes "ok 0\n" })
+    × (verify_16 (codes "range empty * * 01010002010b0162010a01610000\n") ≡ silent (VerifyRefused 1 (NotAccepted (Unsorted 1))))
+    × (verify_16 (codes "range empty * * 010102\n") ≡ silent (VerifyRefused 1 (NotRead (record { at = 2; kind = Flag }))))
+
+-- the proof of all keys of a map, of one pair and one byte at most, on a store of the empty map: this is held under its names, and nothing else is
+abbrev pub RangeRuns : Type 0
+RangeRuns =
+    let range_16 : List ℕ → Outcome = λ root. outcome (codes "D" ∷ ranging (root ∷ codes "*" ∷ codes "*" ∷ codes "1" ∷ codes "1" ∷ [])) (Ok map_of.empty) [] in
+    (range_16 (codes "empty") ≡ prints (codes "range 010100000000\n"))
+    × (range_16 (codes "now") ≡ prints (codes "range 010100000000\n"))
+    × (range_16 (codes "~1") ≡ silent NotHeld)

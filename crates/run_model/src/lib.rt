@@ -6,10 +6,13 @@
 //! worked values. Nothing here fails, and nothing here takes memory.
 #![tactic(auto)]
 
-ghost use Rattle.run_model.specs.Laws.{DecidedStays, UndecidedRootFinishes, DecidedVerifyStays, UndecidedVerifyFinishes, PassedLinesAreTrue};
-ghost use Rattle.run_model.specs.Worked.{OnePairRuns, EmptyRuns, WrongWordRuns, WrongLineRuns, KeyLimitRuns, VerifyRuns};
+ghost use Rattle.run_model.specs.Laws.{DecidedStays, UndecidedRootFinishes, DecidedVerifyStays, UndecidedVerifyFinishes, PassedLinesAreTrue, RangeWordsAreWithin};
+ghost use Rattle.run_model.specs.Worked.{OnePairRuns, EmptyRuns, WrongWordRuns, WrongLineRuns, KeyLimitRuns, VerifyRuns, VerifyRangeRuns, RangeRuns};
 
-use proof_model::{accepted_points_are_true, read_points_are_spelled};
+use proof_model::{
+    accepted_points_are_true, accepted_ranges_are_true, read_points_are_spelled,
+    read_ranges_are_spelled,
+};
 
 /// What the first bytes of an input decide of `root`, the whole input does not change.
 pub fn decided_stays()
@@ -37,7 +40,14 @@ pub fn passed_lines_are_true()
 {
     accepted_points_are_true();
     read_points_are_spelled();
+    accepted_ranges_are_true();
+    read_ranges_are_spelled();
 }
+
+/// What words ask for of a range is within the limits.
+pub fn range_words_are_within()
+    ensures { RangeWordsAreWithin }
+{}
 
 /// Inputs that make the map of one pair, and the line that is printed.
 pub fn one_pair_runs()
@@ -67,4 +77,14 @@ pub fn key_limit_runs()
 /// Lines of proofs, and the first one that does not pass.
 pub fn verify_runs()
     ensures { VerifyRuns }
+{}
+
+/// Lines of range proofs, and the first one that does not pass.
+pub fn verify_range_runs()
+    ensures { VerifyRangeRuns }
+{}
+
+/// Range proofs of the empty map, in a store that has it.
+pub fn range_runs()
+    ensures { RangeRuns }
 {}

@@ -17,7 +17,7 @@ by_root : (m : Map) → with_root 4 (held m) (root 4 m) ≡ Some m
 by_root m = rw (itself (root 4 m)) refl
 
 -- the empty map, whether it is the present one or not
-by_zeros : with_root 4 (held no_map) zero_id ≡ Some no_map
+pub by_zeros : with_root 4 (held no_map) zero_id ≡ Some no_map
 by_zeros = go (same_bytes zero_id (root 4 no_map)) (itself zero_id)
   where
     go : (b : Bool) → same_bytes zero_id zero_id ≡ true → cond b (Some no_map) (cond (same_bytes zero_id zero_id) (Some no_map) None) ≡ Some no_map

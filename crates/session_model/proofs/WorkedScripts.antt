@@ -1,8 +1,8 @@
 -- The worked scripts, by computing.
-use Rattle.std.proofs.Common.{◌≡◌, ℕ, suc, ◌+◌, List, [], ◌∷◌, ◌++◌, length, map, Option, None, Result, Ok, refl, sym, ap, ◌∙◌, arith, false, true, nat_lt, nat_le}
+use Rattle.std.proofs.Common.{◌≡◌, ℕ, suc, ◌+◌, List, [], ◌∷◌, ◌++◌, length, map, Option, None, option_map, Result, Ok, refl, sym, ap, ◌∙◌, arith, false, true, nat_lt, nat_le}
 use Rattle.std.specs.Fmt.{digits}
 use Rattle.std.specs.FinMap as map_of
-use Rattle.std.specs.List.{filter_map}
+use Rattle.std.specs.List.{filter, filter_map}
 use Rattle.std.specs.Prelude.{codes}
 use Rattle.std.specs.Str.Lines.{lines}
 use Rattle.hex.specs.Hex.{decode_pairs}
@@ -13,19 +13,25 @@ use Rattle.trie_model.specs.Maps.{Map, entry_item}
 use Rattle.trie_model.specs.Table.{items_table, node_keys}
 use Rattle.proof_model.specs.Paths.{shown_row, path_rows}
 use Rattle.proof_model.specs.Wire.{point_form}
+use Rattle.proof_model.specs.Proofs.{Pair, pair_size}
+use Rattle.proof_model.specs.RangeProofs.{proof_of_pairs}
+use Rattle.proof_model.specs.RangeWire.{range_form}
+use Rattle.proof_model.specs.Takings.{taken as taken_of, is_cut}
+use Rattle.range_model.specs.Ranges.{everything, holds}
 use Rattle.batch_model.specs.Batch.{after_batch}
 use Rattle.view_model.specs.Calls.{number_limit}
 use Rattle.view_model.specs.Forest.{payload}
 use Rattle.text_model.specs.LineKind.{LineKind}
-use Rattle.text_model.specs.Texts.{LimitKind, commit_text, proof_text}
+use Rattle.text_model.specs.Texts.{LimitKind, commit_text, proof_text, range_text}
 use Rattle.text_model.specs.ReadLine.{Line, Commit, Take, Script, read_line}
 use Rattle.session_model.specs.Limits.{pairs_limit, payload_limit}
 use Rattle.session_model.specs.Refusals.{take_refused}
 use Rattle.proof_model.specs.Held.{no_map}
-use Rattle.session_model.specs.Named.{proof_of}
-use Rattle.session_model.specs.Session.{Session, Step, start, committed, commit_step, commit, or_limit, taken, taken_map, take_step, read_step, step}
+use Rattle.session_model.specs.Named.{proof_of, range_proof_of, not_held}
+use Rattle.session_model.specs.Session.{Session, Step, prints, refuses, told_range, start, committed, commit_step, commit, or_limit, taken, taken_map, take_step, read_step, step}
 use Rattle.session_model.specs.Script.{Played, play, and_then, ended}
-use Rattle.session_model.specs.Worked.{WorkedScripts, ViewScripts, ClosedLines, RefusedLines, ProvedLines, no_proof, maybe_text, with, one_pair, a, root_of}
+use Rattle.session_model.specs.Worked.{WorkedScripts, ViewScripts, ClosedLines, RefusedLines, ProvedLines, RangedLines, no_proof, no_range, maybe_text, with, one_pair, a, root_of}
+use Rattle.session_model.proofs.NamedMaps.{by_zeros}
 use Rattle.session_model.proofs.Playing.{put_first, followed, play-done, play-on}
 
 -- ---- maps of so few pairs are within the limit
@@ -203,4 +209,32 @@ unfolding decode_pairs uvarint two_proofs
 proved_lines = (
   ap (λ a. two_proofs a (proof_of 4 [] no_map)) (empty_proof (0x6b ∷ [])) ∙ ap (two_proofs no_proof) (empty_proof []),
   rw small_pair (ap (λ a. proof_text a ∷ commit_text 1 (root_of one_pair) ∷ []) (empty_proof (0x6b ∷ []))),
+)
+
+-- ---- range proofs
+
+-- all keys are proved not to be in the empty map by no node
+pub empty_range : range_proof_of 4 everything 1 1 no_map ≡ no_range
+unfolding taken_of uvarint
+empty_range = ap shown entries-empty
+  where
+    shown : List Pair → List ℕ
+    shown es =
+        let inside : List Pair = filter (λ (e : Pair). holds everything e.0) es in
+        range_form (proof_of_pairs 4 no_map everything (is_cut pair_size 1 1 inside) (taken_of pair_size 1 1 inside))
+
+-- what is printed of the empty map under the name `empty`, by what this names, beside its other names
+under_names : Option Map → List (List ℕ)
+under_names found =
+    let shown : Step = prints (range_text (range_proof_of 4 everything 1 1 no_map)) in
+    filter_map (λ (t : Step). maybe_text t.text) (shown ∷ told_range (option_map (range_proof_of 4 everything 1 1) found) ∷ shown ∷ refuses not_held ∷ [])
+
+three_ranges : List ℕ → List (List ℕ)
+three_ranges a = range_text a ∷ range_text a ∷ range_text a ∷ codes "refused not held\n" ∷ []
+
+pub ranged_lines : RangedLines
+unfolding decode_pairs uvarint under_names three_ranges
+ranged_lines = (
+  ap under_names by_zeros ∙ ap three_ranges empty_range,
+  rw small_pair (ap (λ a. range_text a ∷ commit_text 1 (root_of one_pair) ∷ []) empty_range),
 )

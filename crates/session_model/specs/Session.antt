@@ -4,15 +4,15 @@ use Rattle.std.specs.FinMap as map_of
 use Rattle.trie_model.specs.Maps.{Map, root}
 use Rattle.batch_model.specs.Batch.{Change, set_change, after_batch}
 use Rattle.text_model.specs.LineKind.{LineKind}
-use Rattle.text_model.specs.ReadLine.{Line, Skip, Put, Del, Commit, View, Take, Close, State, Get, Root, Prove, Point, Script, read_line}
-use Rattle.text_model.specs.Texts.{LimitKind, Pairs, Batch, commit_text, view_text, taken_text, closed_text, state_text, refused_text, value_text, root_text, proof_text}
+use Rattle.text_model.specs.ReadLine.{Line, Skip, Put, Del, Commit, View, Take, Close, State, Get, Root, Prove, Point, RangeOf, VerifyRange, Script, read_line}
+use Rattle.text_model.specs.Texts.{LimitKind, Pairs, Batch, commit_text, view_text, taken_text, closed_text, state_text, refused_text, value_text, root_text, proof_text, range_text}
 use Rattle.text_model.specs.Words.{PlaceWord, Db, View as OfView}
 use Rattle.view_model.specs.Calls.{Refusal, number_limit, view_refused, parent_refused, make_refused, made, directed, closed, committed as with_committed}
 use Rattle.view_model.specs.Forest.{Forest, ViewState, no_views, state, next_number, payload}
 use Rattle.view_model.specs.Maps.{changes_of, view_map}
 use Rattle.session_model.specs.Limits.{pairs_limit, payload_limit}
 use Rattle.session_model.specs.Refusals.{state_word, cause_words, take_refused}
-use Rattle.session_model.specs.Named.{proved, not_held}
+use Rattle.session_model.specs.Named.{proved, range_proved, not_held}
 
 -- a script at work: the map of the store, the views, and the changes that no commit and no view has taken so far
 pub record Session : Type 0 where
@@ -151,6 +151,11 @@ abbrev pub told_proof : Option (List ℕ) → Step
 told_proof None = refuses not_held
 told_proof (Some bytes) = prints (proof_text bytes)
 
+-- so of the proof of a range
+abbrev pub told_range : Option (List ℕ) → Step
+told_range None = refuses not_held
+told_range (Some bytes) = prints (range_text bytes)
+
 -- ---- a line
 
 -- what a line does. A script has no lines that check a proof
@@ -167,6 +172,8 @@ line_step w s (Get place key) = Ok (s, told s place (λ m. value_text (map_of.ge
 line_step w s (Root place) = Ok (s, told s place (λ m. root_text (root w m)))
 line_step w s (Prove word key) = Ok (s, told_proof (proved w s.map word key))
 line_step w s (Point root key proof) = Ok (s, quiet)
+line_step w s (RangeOf word asked pairs bytes) = Ok (s, told_range (range_proved w s.map word asked pairs bytes))
+line_step w s (VerifyRange root asked proof) = Ok (s, quiet)
 
 abbrev pub or_limit : Result (Session × Step) LimitKind → Result (Session × Step) Stop
 or_limit (Ok next) = Ok next

@@ -3,7 +3,7 @@ use Rattle.std.specs.Prelude.{◌≡◌, ℕ, List, [], ◌∷◌, codes, Option
 use Rattle.std.specs.List.{filter_map}
 use Rattle.std.specs.FinMap as map_of
 use Rattle.trie_model.specs.Maps.{Map, root}
-use Rattle.text_model.specs.Texts.{commit_text, view_text, taken_text, state_text, root_text, proof_text}
+use Rattle.text_model.specs.Texts.{commit_text, view_text, taken_text, state_text, root_text, proof_text, range_text}
 use Rattle.text_model.specs.Words.{Id, Now, Empty, Back}
 use Rattle.proof_model.specs.Held.{no_map}
 use Rattle.session_model.specs.Named.{held, named}
@@ -97,3 +97,13 @@ abbrev pub ProvedLines : Type 0
 ProvedLines =
     (printed (codes "prove now 6b\nprove ~0 -\nprove ~1 6b\n") ≡ proof_text no_proof ∷ proof_text no_proof ∷ codes "refused not held\n" ∷ [])
     × (printed (codes "put 6b 76\nprove now 6b\n") ≡ proof_text no_proof ∷ commit_text 1 (root_of one_pair) ∷ [])
+
+-- the bytes of a range proof that shows no pair and no node
+abbrev pub no_range : List ℕ
+no_range = 0x01 ∷ 0x01 ∷ 0x00 ∷ 0x00 ∷ 0x00 ∷ 0x00 ∷ []
+
+-- proofs of all keys in the empty map, under three of its names, and in a map that the store has not. What is pending is not proved, and stays pending
+abbrev pub RangedLines : Type 0
+RangedLines =
+    (printed (codes "range now * * 1 1\nrange empty * * 1 1\nrange ~0 * * 1 1\nrange ~1 * * 1 1\n") ≡ range_text no_range ∷ range_text no_range ∷ range_text no_range ∷ codes "refused not held\n" ∷ [])
+    × (printed (codes "put 6b 76\nrange now * * 1 1\n") ≡ range_text no_range ∷ commit_text 1 (root_of one_pair) ∷ [])

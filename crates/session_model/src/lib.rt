@@ -7,7 +7,7 @@
 #![tactic(auto)]
 
 ghost use Rattle.session_model.specs.Laws.{StepsMakeTheMap, MapsEndThere, DecidedStops, AcknowledgedStand, ViewRootsStay};
-ghost use Rattle.session_model.specs.Worked.{WorkedScripts, ViewScripts, ClosedLines, RefusedLines, NamedMaps, ProvedLines};
+ghost use Rattle.session_model.specs.Worked.{WorkedScripts, ViewScripts, ClosedLines, RefusedLines, NamedMaps, ProvedLines, RangedLines};
 
 /// The map at which a script stands is that after its steps.
 pub fn steps_make_the_map()
@@ -62,4 +62,9 @@ pub fn named_maps()
 /// Proofs of keys in the maps that roots name.
 pub fn proved_lines()
     ensures { ProvedLines }
+{}
+
+/// Proofs of ranges of the maps that roots name.
+pub fn ranged_lines()
+    ensures { RangedLines }
 {}

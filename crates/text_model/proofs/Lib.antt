@@ -3,7 +3,11 @@ pub mod LinesWithin
 pub mod SettledLines
 pub mod WordBytes
 pub mod MapOfLines
+pub mod RootWords
+pub mod RangeWords
+pub mod EachLine
 pub mod PointLines
+pub mod AskedRanges
 pub mod LastLine
 pub mod PrintedBytes
 pub mod RootText

@@ -38,7 +38,7 @@ hex_word_bytes word = by_tests AreBytes (bytes_eq word (codes "-")) (length word
 abbrev pub AreBytesWithin : ℕ → List ℕ → Type 0
 AreBytesWithin limit bytes = AreBytes bytes × (length bytes ≤ limit)
 
-within : (limit : ℕ) (long : LineKind) (o : Option (List ℕ)) → Has AreBytes o → IfOk (at_most limit long o) (AreBytesWithin limit)
+pub within : (limit : ℕ) (long : LineKind) (o : Option (List ℕ)) → Has AreBytes o → IfOk (at_most limit long o) (AreBytesWithin limit)
 within limit long None h = tt
 within limit long (Some bytes) h = go (nat_le (length bytes) limit) refl
   where

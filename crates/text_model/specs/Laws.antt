@@ -6,12 +6,13 @@ use Rattle.std.specs.Str.Lines.{lines}
 use Rattle.base_model.specs.Bytes.{AreBytes}
 use Rattle.trie_model.specs.Hashing.{hash_length}
 use Rattle.trie_model.specs.Maps.{Map, IsMap, key_limit, limits, root}
+use Rattle.range_model.specs.Ranges.{Range, IsRange}
 use Rattle.text_model.specs.Lines.{is_overlong, lines_within}
 use Rattle.text_model.specs.LineKind.{LineKind}
-use Rattle.text_model.specs.ReadLine.{InputKind, Batch, Verify, Line, Put, Del, Point, read_line, is_line}
+use Rattle.text_model.specs.ReadLine.{InputKind, Batch, Script, Verify, Line, Put, Del, Point, RangeOf, VerifyRange, read_line, is_line}
 use Rattle.text_model.specs.FirstBad.{first_bad}
 use Rattle.text_model.specs.MapOfLines.{map_of_lines}
-use Rattle.text_model.specs.Words.{hex_word, number_word}
+use Rattle.text_model.specs.Words.{RootWord, hex_word, number_word, most_pairs, most_bytes}
 use Rattle.text_model.specs.Texts.{root_text, numbered_text, word_of_bytes, value_text}
 
 -- what lines make is a map of byte strings within the limits of keys and values
@@ -103,3 +104,24 @@ pub record IsPointLine (root key proof : List ℕ) : Type 0 where
 
 abbrev pub PointLinesAreWithin : Type 0
 PointLinesAreWithin = (line root key proof : List ℕ) → read_line Verify line ≡ Ok (Point root key proof) → IsPointLine root key proof
+
+-- what a line says of a range proof: the bytes of a root, a range of keys, and the bytes of the proof
+pub record IsRangeLine (root : List ℕ) (asked : Range) (proof : List ℕ) : Type 0 where
+  pub root_bytes : AreBytes root
+  pub root_length : length root ≡ hash_length
+  pub range : IsRange limits asked
+  pub proof_bytes : AreBytes proof
+
+abbrev pub RangeLinesAreWithin : Type 0
+RangeLinesAreWithin = (line root : List ℕ) (asked : Range) (proof : List ℕ) → read_line Verify line ≡ Ok (VerifyRange root asked proof) → IsRangeLine root asked proof
+
+-- what a line asks for of a range: a range of keys, and one pair and one byte at least, none of them more than may be asked for
+pub record IsAskedRange (asked : Range) (pairs bytes : ℕ) : Type 0 where
+  pub range : IsRange limits asked
+  pub some_pairs : 1 ≤ pairs
+  pub few_pairs : pairs ≤ most_pairs
+  pub some_bytes : 1 ≤ bytes
+  pub few_bytes : bytes ≤ most_bytes
+
+abbrev pub AskedRangesAreWithin : Type 0
+AskedRangesAreWithin = (line : List ℕ) (root : RootWord) (asked : Range) (pairs bytes : ℕ) → read_line Script line ≡ Ok (RangeOf root asked pairs bytes) → IsAskedRange asked pairs bytes

@@ -1,6 +1,6 @@
 -- Why a line is not understood.
 
--- of several faults the first of this list down to `Count` is told, and then that of the leftmost word
+-- of several faults the first of this list down to `Count` is told, then that of the leftmost word, and `Bounds` last
 pub data LineKind : Type 0 where
   -- the line has too many bytes
   TooLong : LineKind
@@ -10,13 +10,15 @@ pub data LineKind : Type 0 where
   Count : LineKind
   -- a word that stands for bytes is not hexadecimal
   Hex : LineKind
-  -- a key has too many bytes
+  -- a key, or a bound of a range, has too many bytes
   LongKey : LineKind
   -- a value has too many bytes
   LongValue : LineKind
-  -- a word that stands for a number is none
+  -- a word that stands for a number is none, or the number is outside its limits
   Number : LineKind
   -- a word that stands for the store or a view is neither
   Place : LineKind
   -- a word that stands for a root is none
   Root : LineKind
+  -- the end of a range is below its start
+  Bounds : LineKind

@@ -3,18 +3,19 @@ use Rattle.std.specs.Prelude.{ℕ, ◌==◌, Bool, false, if◌then◌else◌, n
 use Rattle.std.specs.Option.{ok_or}
 use Rattle.std.specs.Str.{bytes_eq}
 use Rattle.base_model.specs.Fields.{◌>>=◌}
-use Rattle.trie_model.specs.Maps.{key_limit, value_limit}
+use Rattle.trie_model.specs.Maps.{key_limit, value_limit, limits}
+use Rattle.range_model.specs.Ranges.{Range, bound_limit}
 use Rattle.text_model.specs.Lines.{is_overlong}
-use Rattle.text_model.specs.Words.{PlaceWord, RootWord, words_of, hex_word, number_word, place_word, root_word, plain_root_word}
-use Rattle.text_model.specs.LineKind.{LineKind, TooLong, Word, Count, Hex, LongKey, LongValue, Number, Place, Root as NoRoot}
+use Rattle.text_model.specs.Words.{PlaceWord, RootWord, words_of, hex_word, number_word, place_word, root_word, plain_root_word, most_pairs, most_bytes, count_word, range_between}
+use Rattle.text_model.specs.LineKind.{LineKind, TooLong, Word, Count, Hex, LongKey, LongValue, Number, Place, Root as NoRoot, Bounds}
 
 -- which lines an input may have
 pub data InputKind : Type 0 where
   -- `put KEY VALUE` and `del KEY`
   Batch : InputKind
-  -- these, `commit`, the lines on views, and `prove ROOT KEY`
+  -- these, `commit`, the lines on views, `prove ROOT KEY`, and `range ROOT START END PAIRS BYTES`
   Script : InputKind
-  -- `point ROOT KEY HEX`
+  -- `point ROOT KEY HEX` and `range ROOT START END HEX`
   Verify : InputKind
 
 -- what a line asks for
@@ -43,6 +44,10 @@ pub data Line : Type 0 where
   Prove : RootWord → List ℕ → Line
   -- whether bytes prove what every map with this root has at a key
   Point : List ℕ → List ℕ → List ℕ → Line
+  -- the proof of a range, in the map that a root names, with so many pairs and so many bytes of them at most
+  RangeOf : RootWord → Range → ℕ → ℕ → Line
+  -- whether bytes prove what every map with this root has in a range
+  VerifyRange : List ℕ → Range → List ℕ → Line
 
 -- a line whose first byte is `#`
 abbrev pub is_comment : List ℕ → Bool
@@ -64,6 +69,10 @@ key_word word = at_most key_limit LongKey (hex_word word)
 abbrev pub value_word : List ℕ → Result (List ℕ) LineKind
 value_word word = at_most value_limit LongValue (hex_word word)
 
+-- the bound of a range that a word stands for: none for a star. One may have a byte more than a key
+abbrev pub bound_word : List ℕ → Result (Option (List ℕ)) LineKind
+bound_word word = if bytes_eq word (codes "*") then Ok None else at_most (bound_limit limits) LongKey (hex_word word) >>= (λ b. Ok (Some b))
+
 -- what follows a first word is one word
 abbrev pub one_word : (List ℕ → Result Line LineKind) → List (List ℕ) → Result Line LineKind
 one_word read [] = Err Count
@@ -81,6 +90,16 @@ two_words read (first ∷ second ∷ word ∷ words) = Err Count
 abbrev pub three_words : (List ℕ → List ℕ → List ℕ → Result Line LineKind) → List (List ℕ) → Result Line LineKind
 three_words read [] = Err Count
 three_words read (first ∷ words) = two_words (read first) words
+
+-- what follows a first word is four words
+abbrev pub four_words : (List ℕ → List ℕ → List ℕ → List ℕ → Result Line LineKind) → List (List ℕ) → Result Line LineKind
+four_words read [] = Err Count
+four_words read (first ∷ words) = three_words (read first) words
+
+-- what follows a first word is five words
+abbrev pub five_words : (List ℕ → List ℕ → List ℕ → List ℕ → List ℕ → Result Line LineKind) → List (List ℕ) → Result Line LineKind
+five_words read [] = Err Count
+five_words read (first ∷ words) = four_words (read first) words
 
 -- ---- lines that change a map
 
@@ -135,6 +154,27 @@ point_line root key proof = do
   p ← ok_or (hex_word proof) Hex
   Ok (Point r k p)
 
+-- a root, the two bounds of a range, and how many pairs and bytes of them
+abbrev pub range_line : List ℕ → List ℕ → List ℕ → List ℕ → List ℕ → Result Line LineKind
+range_line root start end pairs bytes = do
+  r ← ok_or (root_word root) NoRoot
+  a ← bound_word start
+  b ← bound_word end
+  n ← ok_or (count_word most_pairs pairs) Number
+  z ← ok_or (count_word most_bytes bytes) Number
+  asked ← ok_or (range_between a b) Bounds
+  Ok (RangeOf r asked n z)
+
+-- a root, the two bounds of a range, and the bytes of a proof
+abbrev pub verify_range_line : List ℕ → List ℕ → List ℕ → List ℕ → Result Line LineKind
+verify_range_line root start end proof = do
+  r ← ok_or (plain_root_word root) NoRoot
+  a ← bound_word start
+  b ← bound_word end
+  p ← ok_or (hex_word proof) Hex
+  asked ← ok_or (range_between a b) Bounds
+  Ok (VerifyRange r asked p)
+
 -- ---- lines by their words
 
 -- what follows `commit`: nothing
@@ -153,6 +193,7 @@ script_words command words =
     else if bytes_eq command (codes "get") then two_words get_line words
     else if bytes_eq command (codes "root") then one_word (place_line Root) words
     else if bytes_eq command (codes "prove") then two_words prove_line words
+    else if bytes_eq command (codes "range") then five_words range_line words
     else Err Word
 
 -- a line that changes a map, or one that is read in another way
@@ -164,7 +205,10 @@ change_words other command words =
 
 -- a line that tells of a proof
 abbrev pub verify_words : List ℕ → List (List ℕ) → Result Line LineKind
-verify_words command words = if bytes_eq command (codes "point") then three_words point_line words else Err Word
+verify_words command words =
+    if bytes_eq command (codes "point") then three_words point_line words
+    else if bytes_eq command (codes "range") then four_words verify_range_line words
+    else Err Word
 
 -- a line of an input of this kind
 abbrev pub own_words : InputKind → List ℕ → List (List ℕ) → Result Line LineKind

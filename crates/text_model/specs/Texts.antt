@@ -48,6 +48,10 @@ value_text None = codes "none" ++ 10 ∷ []
 abbrev pub proof_text : List ℕ → List ℕ
 proof_text bytes = codes "proof " ++ encode_lower bytes ++ 10 ∷ []
 
+-- the line of a range proof: its bytes, of which it has some
+abbrev pub range_text : List ℕ → List ℕ
+range_text bytes = codes "range " ++ encode_lower bytes ++ 10 ∷ []
+
 -- the line of a proof that is accepted: how many pairs it shows
 abbrev pub ok_text : ℕ → List ℕ
 ok_text pairs = codes "ok " ++ decimal pairs ++ 10 ∷ []

@@ -1,5 +1,5 @@
--- The words of a line, and words that stand for bytes, for a number, for what a line of a script speaks of, and for a root.
-use Rattle.std.specs.Prelude.{ℕ, ◌^◌, ◌*◌, ◌==◌, ◌&&◌, ◌||◌, Bool, false, not, if◌then◌else◌, nat_lt, List, [], ◌∷◌, length, codes, Option, Some, None, option_map}
+-- The words of a line, and words that stand for bytes, for a number, for what a line of a script speaks of, for a root, and for how much of a range.
+use Rattle.std.specs.Prelude.{ℕ, ◌^◌, ◌*◌, ◌==◌, ◌&&◌, ◌||◌, Bool, false, not, if◌then◌else◌, nat_lt, nat_le, List, [], ◌∷◌, length, codes, Option, Some, None, option_map}
 use Rattle.std.specs.Char.{is_ascii_digit}
 use Rattle.std.specs.List.{slice_split, filter}
 use Rattle.std.specs.Str.{bytes_eq, all_ascii_digits}
@@ -7,6 +7,7 @@ use Rattle.std.specs.Str.Parse.{digits_value}
 use Rattle.std.specs.Result.{result_ok}
 use Rattle.hex.specs.Hex.{decode_of}
 use Rattle.trie_model.specs.Hashing.{hash_length, zero_id}
+use Rattle.range_model.specs.Ranges.{Range, are_in_order}
 
 -- a space or a tab
 abbrev pub is_blank : ℕ → Bool
@@ -81,3 +82,26 @@ root_word word =
 -- the root of a word where there is no store: an ID, or `empty`
 abbrev pub plain_root_word : List ℕ → Option (List ℕ)
 plain_root_word word = if bytes_eq word (codes "empty") then Some zero_id else id_word word
+
+-- ---- ranges
+
+-- the most pairs of a range that may be asked for
+abbrev pub most_pairs : ℕ
+most_pairs = 4096
+
+-- the most bytes of them
+abbrev pub most_bytes : ℕ
+most_bytes = 2097152
+
+-- a number from 1 to a limit
+abbrev pub from_one_to : ℕ → Option ℕ → Option ℕ
+from_one_to limit None = None
+from_one_to limit (Some n) = if nat_le 1 n && nat_le n limit then Some n else None
+
+-- how many of something are asked for, one at least
+abbrev pub count_word : ℕ → List ℕ → Option ℕ
+count_word limit word = from_one_to limit (number_word word)
+
+-- the range between two bounds, unless the end is below the start
+abbrev pub range_between : Option (List ℕ) → Option (List ℕ) → Option Range
+range_between start end = if are_in_order start end then Some (record { start = start; end = end }) else None

@@ -1,7 +1,8 @@
 -- Worked lines of an input that makes a map, of a script, and of an input of proofs. Bytes are in hexadecimal: 09 is a tab, 0d a carriage return.
-use Rattle.std.specs.Prelude.{◌≡◌, ℕ, List, [], ◌∷◌, ◌++◌, codes, replicate, Result, Ok, Err}
-use Rattle.text_model.specs.LineKind.{LineKind, Word, Count, Hex, LongKey, Number, Place, Root as NoRoot}
-use Rattle.text_model.specs.ReadLine.{Batch, Script, Verify, Line, Skip, Put, Del, Commit, View, Take, Close, State, Get, Root, Prove, Point, read_line}
+use Rattle.std.specs.Prelude.{◌≡◌, ℕ, List, [], ◌∷◌, ◌++◌, codes, replicate, Some, None, Result, Ok, Err}
+use Rattle.range_model.specs.Ranges.{Range, everything, only}
+use Rattle.text_model.specs.LineKind.{LineKind, Word, Count, Hex, LongKey, Number, Place, Root as NoRoot, Bounds}
+use Rattle.text_model.specs.ReadLine.{Batch, Script, Verify, Line, Skip, Put, Del, Commit, View, Take, Close, State, Get, Root, Prove, Point, RangeOf, VerifyRange, read_line}
 use Rattle.text_model.specs.Words.{Db, View as OfView, Id, Now, Empty, Back}
 
 -- a line of an input that makes a map
@@ -15,6 +16,10 @@ script = read_line Script
 -- a line of an input of proofs
 abbrev pub proof : List ℕ → Result Line LineKind
 proof = read_line Verify
+
+-- from 0a, and up to a bound of 257 bytes
+abbrev pub to_the_limit : Range
+to_the_limit = record { start = Some (0x0a ∷ []); end = Some (replicate 257 0x11) }
 
 -- lines that are understood
 abbrev pub GoodLines : Type 0
@@ -78,6 +83,11 @@ ScriptLines =
     × (script (codes "prove ~64 6b") ≡ Ok (Prove (Back 64) (0x6b ∷ [])))
     -- 64 digits in either case
     × (script (codes "prove " ++ replicate 62 0x30 ++ codes "aF 6b") ≡ Ok (Prove (Id (replicate 31 0x00 ++ 0xaf ∷ [])) (0x6b ∷ [])))
+    × (script (codes "range now * * 1 1") ≡ Ok (RangeOf Now everything 1 1))
+    × (script (codes "range ~1 0A 0a 10 1000") ≡ Ok (RangeOf (Back 1) (only (0x0a ∷ [])) 10 1000))
+    × (script (codes "range empty - * 4096 2097152") ≡ Ok (RangeOf Empty (record { start = Some []; end = None }) 4096 2097152))
+    -- a bound may have one byte more than a key
+    × (script (codes "range now 0a " ++ replicate 514 0x31 ++ codes " 1 1") ≡ Ok (RangeOf Now to_the_limit 1 1))
     -- the lines of an input that makes a map are lines of a script
     × (script (codes "put 6b 76") ≡ Ok (Put (0x6b ∷ []) (0x76 ∷ [])))
     × (script (codes "del 6b") ≡ Ok (Del (0x6b ∷ [])))
@@ -126,8 +136,24 @@ BadScriptLines =
     × (script (codes "prove db 6") ≡ Err NoRoot)
     × (script (codes "prove now 6") ≡ Err Hex)
     × (script (codes "prove now") ≡ Err Count)
+    -- a range has an end that is not below its start, and is asked for within limits
+    × (script (codes "range now 0b 0a 1 1") ≡ Err Bounds)
+    × (script (codes "range now 0a 0a 0 1") ≡ Err Number)
+    × (script (codes "range now 0a 0a 4097 1") ≡ Err Number)
+    × (script (codes "range now 0a 0a 1 0") ≡ Err Number)
+    × (script (codes "range now 0a 0a 1 2097153") ≡ Err Number)
+    × (script (codes "range now 0a " ++ replicate 516 0x31 ++ codes " 1 1") ≡ Err LongKey)
+    × (script (codes "range now 0 0a 1 1") ≡ Err Hex)
+    × (script (codes "range now ** 0a 1 1") ≡ Err Hex)
+    -- that tells where all words are good
+    × (script (codes "range now 0b 0a 0 1") ≡ Err Number)
+    × (script (codes "range db 0b 0a 1 1") ≡ Err NoRoot)
+    × (script (codes "range now 0b 0a 1") ≡ Err Count)
+    × (script (codes "range now 0b 0a 1 1 1") ≡ Err Count)
+    × (read (codes "range now * * 1 1") ≡ Err Word)
     -- a script checks no proofs
     × (script (codes "point empty 6b 01") ≡ Err Word)
+    × (script (codes "range empty * * 01") ≡ Err Count)
 
 -- lines of an input of proofs
 abbrev pub ProofLines : Type 0
@@ -144,5 +170,13 @@ ProofLines =
     × (proof (codes "point empty " ++ replicate 514 0x30 ++ codes " 01") ≡ Err LongKey)
     × (proof (codes "point empty 6b") ≡ Err Count)
     × (proof (codes "point empty 6b 01 01") ≡ Err Count)
+    × (proof (codes "range empty 0a * 0101") ≡ Ok (VerifyRange (replicate 32 0x00) (record { start = Some (0x0a ∷ []); end = None }) (0x01 ∷ 0x01 ∷ [])))
+    × (proof (codes "range empty * 0A -") ≡ Ok (VerifyRange (replicate 32 0x00) (record { start = None; end = Some (0x0a ∷ []) }) []))
+    × (proof (codes "range empty 0b 0a 0101") ≡ Err Bounds)
+    × (proof (codes "range empty 0b 0a 010") ≡ Err Hex)
+    × (proof (codes "range empty 0b " ++ replicate 516 0x30 ++ codes " 01") ≡ Err LongKey)
+    × (proof (codes "range now * * 01") ≡ Err NoRoot)
+    × (proof (codes "range empty * *") ≡ Err Count)
+    × (proof (codes "range empty * * 1 1") ≡ Err Count)
     × (proof (codes "put 6b 76") ≡ Err Word)
     × (proof (codes "prove now 6b") ≡ Err Word)

@@ -1,12 +1,12 @@
 //! The words of text: lines and which of them are read, what a line asks for or why it is not
 //! understood, the first bad line, the map that lines make, and the texts that are printed.
 //!
-//! It stands on `base_model` and `trie_model`, and on `hex` for its words. It holds no code: each
+//! It stands on `base_model`, `trie_model` and `range_model`, and on `hex` for its words. It holds no code: each
 //! function is empty, and its contract is a law of the definitions in `specs/`, or some of their
 //! worked values. Nothing here fails, and nothing here takes memory.
 #![tactic(auto)]
 
-ghost use Rattle.text_model.specs.Laws.{LinesMakeMaps, LastLineCounts, FirstBadLine, CutLines, BadLineStays, OverlongLinesAreBad, RootLines, NumberedLines, ValueLines, NumbersAreDecimal, PointLinesAreWithin};
+ghost use Rattle.text_model.specs.Laws.{LinesMakeMaps, LastLineCounts, FirstBadLine, CutLines, BadLineStays, OverlongLinesAreBad, RootLines, NumberedLines, ValueLines, NumbersAreDecimal, PointLinesAreWithin, RangeLinesAreWithin, AskedRangesAreWithin};
 ghost use Rattle.text_model.specs.WorkedLines.{GoodLines, BadLines, ScriptLines, BadScriptLines, ProofLines};
 ghost use Rattle.text_model.specs.WorkedTexts.{WorkedTexts};
 
@@ -63,6 +63,16 @@ pub fn numbers_are_decimal()
 /// What a line says of a proof: the bytes of a root, of a key within its limit, and of the proof.
 pub fn point_lines_are_within()
     ensures { PointLinesAreWithin }
+{}
+
+/// What a line says of a range proof: the bytes of a root, a range of keys, and the bytes of the proof.
+pub fn range_lines_are_within()
+    ensures { RangeLinesAreWithin }
+{}
+
+/// What a line asks for of a range: a range of keys, and how much of it within the limits.
+pub fn asked_ranges_are_within()
+    ensures { AskedRangesAreWithin }
 {}
 
 /// Lines that are understood.

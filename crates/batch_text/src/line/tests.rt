@@ -26,7 +26,12 @@ enum Asked<'a> {
         key: &'a [u8],
         proof: &'a [u8],
     },
+    Range(RootWord, Bounds<'a>, u32, u32),
+    VerifyRange(Id, Bounds<'a>, &'a [u8]),
 }
+
+// The start and the end of a range.
+type Bounds<'a> = (Option<&'a [u8]>, Option<&'a [u8]>);
 
 fn assert_reads(
     rt: &impl Abort,
@@ -74,6 +79,26 @@ fn assert_reads(
         ) => {
             assert_eq!(rt; root, r, "root of {line:?}");
             assert_eq!(rt; key.as_slice(), k, "key of {line:?}");
+            assert_eq!(rt; proof.as_slice(), p, "proof of {line:?}");
+        }
+        (
+            Ok(
+                Line::RangeOf {
+                    root,
+                    range,
+                    pairs,
+                    bytes,
+                },
+            ),
+            Ok(Asked::Range(r, bounds, n, z)),
+        ) => {
+            assert_eq!(rt; root, r, "root of {line:?}");
+            assert_eq!(rt; (range.start(), range.end()), bounds, "bounds of {line:?}");
+            assert_eq!(rt; (pairs, bytes), (n, z), "numbers of {line:?}");
+        }
+        (Ok(Line::VerifyRange { root, range, proof }), Ok(Asked::VerifyRange(r, bounds, p))) => {
+            assert_eq!(rt; root, r, "root of {line:?}");
+            assert_eq!(rt; (range.start(), range.end()), bounds, "bounds of {line:?}");
             assert_eq!(rt; proof.as_slice(), p, "proof of {line:?}");
         }
         (Err(fault), Err(kind)) => {
@@ -188,7 +213,7 @@ fn a_script_has_more_lines_and_no_other_input_has_them(rt: HostRuntime) {
 #[test]
 fn a_line_of_a_script_has_its_first_fault(rt: HostRuntime) {
     let alloc = rt.alloc();
-    let rows: [(&[u8], LineKind); 48] = [
+    let rows: [(&[u8], LineKind); 47] = [
         (b"comit", LineKind::Word),
         (b"Commit", LineKind::Word),
         (b"commit\r", LineKind::Word),
@@ -196,7 +221,6 @@ fn a_line_of_a_script_has_its_first_fault(rt: HostRuntime) {
         (b"db", LineKind::Word),
         // Lines that no script has today.
         (b"changes now now * * 1 1", LineKind::Word),
-        (b"range now * * 1 1", LineKind::Word),
         (b"compact", LineKind::Word),
         (b"foo zz zz", LineKind::Word),
         (b"put 6b", LineKind::Count),
@@ -313,7 +337,7 @@ fn a_root_is_an_id_or_the_name_of_a_map_that_is_there(rt: HostRuntime) -> Result
 }
 
 #[test]
-fn an_input_of_proofs_has_no_lines_but_points(rt: HostRuntime) {
+fn an_input_of_proofs_has_no_lines_but_proofs(rt: HostRuntime) {
     let alloc = rt.alloc();
     let empty = Ok(Asked::Point {
         root: [0; 32],
@@ -351,11 +375,56 @@ fn an_input_of_proofs_has_no_lines_but_points(rt: HostRuntime) {
     }
 }
 
+#[test]
+fn a_range_ends_at_or_above_its_start_and_asks_within_limits(rt: HostRuntime) {
+    let alloc = rt.alloc();
+    let all = Ok(Asked::Range(RootWord::Now, (None, None), 1, 1));
+    let one = Ok(Asked::Range(
+        RootWord::Back(1),
+        (Some(b"\n"), Some(b"\n")),
+        4_096,
+        2_097_152,
+    ));
+    let rows: [(&[u8], Result<Asked, LineKind>); 14] = [
+        (b"range now * * 1 1", all),
+        (b"range ~1 0A 0a 4096 2097152", one),
+        (b"range now 0b 0a 1 1", Err(LineKind::Bounds)),
+        (b"range now 0a00 0a 1 1", Err(LineKind::Bounds)),
+        (b"range now 0b 0a 0 1", Err(LineKind::Number)),
+        (b"range now 0b 0a 1 0", Err(LineKind::Number)),
+        (b"range now * * 4097 1", Err(LineKind::Number)),
+        (b"range now * * 1 2097153", Err(LineKind::Number)),
+        (b"range now * * 01 1", Err(LineKind::Number)),
+        (b"range now ** 0 1 1", Err(LineKind::Hex)),
+        (b"range now * 0 1 1", Err(LineKind::Hex)),
+        (b"range db 0 0 0 0", Err(LineKind::Root)),
+        (b"range now * * 1", Err(LineKind::Count)),
+        (b"range now * * 1 1 1", Err(LineKind::Count)),
+    ];
+    for (line, want) in rows {
+        assert_reads(&rt, alloc, InputKind::Script, line, want);
+    }
+    let from = Ok(Asked::VerifyRange([0; 32], (Some(b""), None), b"\x01\x01"));
+    let up_to = Ok(Asked::VerifyRange([0; 32], (None, Some(b"\n")), b""));
+    let checked: [(&[u8], Result<Asked, LineKind>); 7] = [
+        (b"range empty - * 0101", from),
+        (b"range empty * 0a -", up_to),
+        (b"range empty 0b 0a 01", Err(LineKind::Bounds)),
+        (b"range empty 0b 0a 0", Err(LineKind::Hex)),
+        (b"range now * * 01", Err(LineKind::Root)),
+        (b"range empty * *", Err(LineKind::Count)),
+        (b"range empty * * 1 1", Err(LineKind::Count)),
+    ];
+    for (line, want) in checked {
+        assert_reads(&rt, alloc, InputKind::Verify, line, want);
+    }
+}
+
 // Digits between what stands before and after them, and the kind that is told of such a line.
 #[test]
 fn words_and_lines_end_at_their_limits(rt: HostRuntime) -> Result<(), Fail> {
     let alloc = rt.alloc();
-    let rows: [(&[u8], usize, &[u8], Option<LineKind>); 14] = [
+    let rows: [(&[u8], usize, &[u8], Option<LineKind>); 17] = [
         (b"del ", 512, b"", None),
         (b"del ", 513, b"", Some(LineKind::Hex)),
         (b"del ", 514, b"", Some(LineKind::LongKey)),
@@ -370,6 +439,9 @@ fn words_and_lines_end_at_their_limits(rt: HostRuntime) -> Result<(), Fail> {
         (b"get 1 ", 514, b"", Some(LineKind::LongKey)),
         (b"get 1x ", 514, b"", Some(LineKind::Place)),
         (b"take 1", 20_000_000, b"", Some(LineKind::TooLong)),
+        (b"range now * ", 514, b" 1 1", None),
+        (b"range now * ", 516, b" 1 1", Some(LineKind::LongKey)),
+        (b"range now 01 ", 514, b" 1 1", Some(LineKind::Bounds)),
     ];
     for (before, digits, after, want) in rows {
         let mut line = Vec::from_slice(alloc, before)?;
