@@ -1,3 +1,3 @@
-pub mod PointFaults
+pub mod ProofFaults
 pub mod LinesSoFar
 pub mod VerifyEnds

@@ -1,23 +1,21 @@
 -- Lines of an input of proofs that passed, from line to line.
-use Rattle.std.proofs.Common.{◌≡◌, ℕ, suc, ◌+◌, ◌≤◌, Bool, true, false, nat_le, cond, List, [], ◌∷◌, ◌++◌, length, Option, Some, None, Result, Ok, Err, refl, sym, ap, ◌∙◌, subst, arith, append_assoc, length-append}
+use Rattle.std.proofs.Common.{◌≡◌, ℕ, suc, ◌+◌, Bool, true, false, nat_le, cond, List, [], ◌∷◌, ◌++◌, length, Option, Some, None, Result, Ok, Err, refl, sym, ap, ◌∙◌, arith, append_assoc, length-append}
 use Rattle.std.specs.Prelude.{IfSome, IsTrue, is_ok}
 use Rattle.std.specs.Io.KnownBytes.{Appends}
-use Rattle.std.specs.List.{flat_map}
 use Rattle.std.specs.Option.{option_or}
-use Rattle.std.proofs.lemmas.Bool.{leb-true, leb-false, le-leb, lt-leb}
+use Rattle.std.proofs.lemmas.Bool.{le-leb, lt-leb}
 use Rattle.std.proofs.lemmas.Grind.{flat_map-append}
 use Rattle.std.proofs.lemmas.List.{append-nil}
 use Rattle.base_model.specs.Faults.{TellsAlike}
 use Rattle.base_model.specs.Streams.{AppendsPrefix}
-use Rattle.text_model.specs.FirstBad.{first_told, first_bad}
+use Rattle.text_model.specs.FirstBad.{first_told}
 use Rattle.text_model.specs.Laws.{AreGood, RefusesOverlong}
-use Rattle.text_model.specs.Lines.{input_limit, is_overlong, lines_within}
+use Rattle.text_model.specs.Lines.{input_limit, lines_within}
 use Rattle.text_model.specs.Texts.{Input}
 use Rattle.batch_text.specs.Stream.{Stream, Gives, NoMore, Past, FirstIsOverlong, BeginsOverlong}
 use Rattle.run_model.specs.End.{End, Done, BadLine, Limit}
-use Rattle.run_model.specs.Verify.{Fault, NotUnderstood, fault_end, verdict, line_end, end_unless, end_within, passed, text_or_none, verdicts_text, verify_outcome}
+use Rattle.run_model.specs.Verify.{Fault, NotUnderstood, fault_end, verdict, line_end, end_unless, passed, text_or_none, verdicts_text, verify_outcome}
 use Rattle.run_model.proofs.PrintedText.{nothing, and_then, same_text, same_prefix, then_prefix, prefix_of_more, whole}
-use Rattle.run_model.proofs.Verifying.{line_over}
 
 -- a line passes
 abbrev pub passes : ℕ → List ℕ → Bool

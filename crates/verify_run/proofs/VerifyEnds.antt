@@ -1,7 +1,6 @@
 -- What a run of `verify` promises, by how its lines ended.
-use Rattle.std.proofs.Common.{◌≡◌, ◌≢◌, ◌⊎◌, ℕ, ◌+◌, ◌≤◌, ◌<◌, Bool, true, false, nat_le, cond, List, [], ◌∷◌, ◌++◌, length, take, Option, Some, None, Result, Ok, Err, refl, sym, ap, ◌∙◌, subst, inl, inr, arith}
+use Rattle.std.proofs.Common.{◌≡◌, ◌≢◌, ◌⊎◌, ℕ, ◌+◌, ◌≤◌, ◌<◌, true, false, nat_le, cond, List, [], ◌∷◌, ◌++◌, length, take, Option, Some, None, Result, Ok, Err, refl, sym, ap, ◌∙◌, subst, inl, inr}
 use Rattle.std.specs.Prelude.{IfSome, is_ok}
-use Rattle.std.specs.Io.KnownBytes.{Appends}
 use Rattle.std.specs.Option.{option_or, is_some}
 use Rattle.std.proofs.lemmas.Bool.{leb-false, le-leb, lt-leb}
 use Rattle.std.proofs.lemmas.List.{take_all}
@@ -13,7 +12,6 @@ use Rattle.text_model.specs.FirstBad.{first_told, first_bad}
 use Rattle.text_model.specs.Lines.{input_limit, settled_lines, lines_within}
 use Rattle.text_model.specs.Texts.{LimitKind, Input}
 use Rattle.store_model.specs.Refusals.{Refusal}
-use Rattle.proof_model.specs.Checked.{Cause}
 use Rattle.batch_text.specs.Stream.{Stream, Gives, NoMore, Past, BeginsOverlong}
 use Rattle.batch_text.specs.PassedLines.{PassSoFar}
 use Rattle.batch_text.specs.declared.reader.ReaderFault.{ReaderFault}
@@ -24,7 +22,7 @@ use Rattle.run_model.specs.Laws.{PassedLinesAreTrue}
 use Rattle.run_model.specs.Outcome.{CameTo}
 use Rattle.run_model.specs.Outside.{DiskSeen, Outside, outside}
 use Rattle.run_model.specs.Runs.{SharedRuns}
-use Rattle.run_model.specs.Verify.{Fault, NotUnderstood, Refused, fault_end, verdict, end_unless, line_end, end_decided, verify_decided, verify_outcome, IsVerdict, VerifyRuns}
+use Rattle.run_model.specs.Verify.{Fault, NotUnderstood, Refused, fault_end, verdict, end_unless, line_end, verify_decided, verify_outcome, IsVerdict, VerifyRuns}
 use Rattle.run_model.proofs.Telling.{where_told, always, rose_at_last}
 use Rattle.verify_run.specs.declared.end.VerifyEnd.{VerifyEnd}
 use Rattle.verify_run.specs.declared.end.VerifyEnd.TheVariants as ends

@@ -3,6 +3,7 @@ use crate::{VerifyEnd, cause_text, verify};
 use bit_keys::Branch;
 use mdb_base::{MemSink, MemSource, NoMemory};
 use std::alloc::Global;
+use std::process::Abort;
 use std::test::Fail;
 
 /// Of 76 at 6b: 00 01 01 76 08 6b.
@@ -10,6 +11,13 @@ const ONE: &str = "1e06a9a1d455f9698b60b63f9d11dbed46ae35a85b0d74fa5b05423b34217
 
 /// Of 61 at 0a: 00 01 01 61 08 0a.
 const OTHER: &str = "00d38df253fa5cbfd74aa88e547efbbfaa1ccd15bbf741cb6b2629e460732170";
+
+/// Of 61 at 0a and 62 at 0b: 02 0a, the ID above, 0b, the ID of 62 at 0b, 00 04 00.
+const BOTH: &str = "64653653211cedc5bb2d1cac77a3abfdc2ab40c9da2fa9a986d1db8642b9fb6c";
+
+/// The nodes of that map on the way to 0a. The ID of 62 at 0b is the hash of 00 01 01 62 08 0b.
+const PATH: &str =
+    "02040000020a00d38df253fa5cbfd74aa88e547efbbfaa1ccd15bbf741cb6b2629e4607321700b9d40dbe52f0ba969c65b4736bc11aada91c0d503f1d1c4d1af62ecfcb393c1e4080a01016100";
 
 /// How a run ended, in words.
 fn words_of(alloc: Global, end: &VerifyEnd) -> Result<String, NoMemory> {
@@ -32,13 +40,15 @@ fn words_of(alloc: Global, end: &VerifyEnd) -> Result<String, NoMemory> {
     Ok(text)
 }
 
-/// A text with a root in the place of each `@` and of each `%`.
+/// A text with a root in the place of each `@`, `%` and `$`, and the path in that of each `^`.
 fn filled(alloc: Global, text: &str) -> Result<String, Fail> {
     let mut out = String::new(alloc);
     for c in text.chars() {
         match c {
             '@' => out.push_str(ONE)?,
             '%' => out.push_str(OTHER)?,
+            '$' => out.push_str(BOTH)?,
+            '^' => out.push_str(PATH)?,
             c => out.push(c)?,
         }
     }
@@ -50,6 +60,22 @@ fn source(alloc: Global, text: &str, failing: &[u64]) -> Result<MemSource, Fail>
     let bytes = Vec::from_slice(alloc, text.as_bytes())?;
     let failing = Vec::from_slice(alloc, failing)?;
     Ok(MemSource::new(bytes, 7, failing))
+}
+
+// That the lines end so, and print this.
+fn assert_run(
+    rt: &impl Abort,
+    alloc: Global,
+    text: &str,
+    want: &str,
+    printed: &str,
+) -> Result<(), Fail> {
+    let mut input = source(alloc, text, &[])?;
+    let mut out = MemSink::new(alloc, Vec::new(alloc));
+    let end = verify(alloc, Branch::B16, &mut input, &mut out);
+    assert_eq!(rt; words_of(alloc, &end)?, filled(alloc, want)?, "of {text}");
+    assert_eq!(rt; out.bytes(), printed.as_bytes(), "printed of {text}");
+    Ok(())
 }
 
 #[test]
@@ -88,11 +114,40 @@ fn each_line_is_checked_until_one_does_not_pass(rt: HostRuntime) -> Result<(), F
         ("point @ 6b\n", "line 1", ""),
     ];
     for (text, want, printed) in rows {
-        let mut input = source(alloc, text, &[])?;
-        let mut out = MemSink::new(alloc, Vec::new(alloc));
-        let end = verify(alloc, Branch::B16, &mut input, &mut out);
-        assert_eq!(rt; words_of(alloc, &end)?, filled(alloc, want)?, "of {text}");
-        assert_eq!(rt; out.bytes(), printed.as_bytes(), "printed of {text}");
+        assert_run(&rt, alloc, text, want, printed)?;
+    }
+    Ok(())
+}
+
+#[test]
+fn lines_of_ranges_are_checked_too(rt: HostRuntime) -> Result<(), Fail> {
+    let alloc = rt.alloc();
+    let rows: [(&str, &str, &str); 6] = [
+        (
+            "range $ * * 01010002010a0161010b01620000\nrange $ 0a 0a 01010001010a0161^^\nrange $ 0a01 0a02 01010000^^\nrange $ * * 01010101010a016100^\n",
+            "done",
+            "ok 2\nok 1\nok 0\nok 1\n",
+        ),
+        (
+            "range $ * * 01010002010b0162010a01610000\n",
+            "line 1 refused, unsorted 1",
+            "",
+        ),
+        (
+            "point empty - 01040000\nrange $ 0b * 01010101010a01610000\n",
+            "line 2 refused, outside 0",
+            "ok 0\n",
+        ),
+        (
+            "range $ * * 01010001010a01610000\n",
+            "line 1 refused, root differs % $",
+            "",
+        ),
+        ("range $ * * 010102\n", "line 1 refused, bytes at 2", ""),
+        ("range empty 0b 0a 010100000000\n", "line 1", ""),
+    ];
+    for (text, want, printed) in rows {
+        assert_run(&rt, alloc, text, want, printed)?;
     }
     Ok(())
 }

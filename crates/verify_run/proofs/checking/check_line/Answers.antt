@@ -1,5 +1,5 @@
 use Rattle.batch_text.specs.SeenLine.{seen_line}
-use Rattle.verify_run.proofs.PointFaults.{as_line}
+use Rattle.verify_run.proofs.ProofFaults.{as_line}
 use Rattle.verify_run.proofs.checking.check_line.Goals as goal
 
 pub text_of-requires : goal.text_of-requires

@@ -1,5 +1,5 @@
 use Rattle.std.specs.Prelude.{is_ok}
-use Rattle.std.proofs.Common.{◌≡◌, ℕ, ap, refl, sym, subst, arith, Result, Ok, Err, Bool, List, ◌∙◌}
+use Rattle.std.proofs.Common.{◌≡◌, ℕ, ap, subst, arith, Ok, Err, Bool, List}
 use Rattle.bit_keys.specs.Branch.{width_of}
 use Rattle.run_model.specs.Outside.{outside}
 use Rattle.run_model.specs.Verify.{verdict}

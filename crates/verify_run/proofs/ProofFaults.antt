@@ -1,12 +1,15 @@
 -- What is known of a proof of a line, by what its bytes are read as and what its check tells.
-use Rattle.std.proofs.Common.{◌≡◌, ℕ, List, Option, Some, None, Result, Ok, Err, refl, sym, ap, ◌∙◌}
+use Rattle.std.proofs.Common.{◌≡◌, ℕ, List, Option, None, Result, Ok, Err, refl, sym, ap, ◌∙◌}
 use Rattle.std.specs.Prelude.{IsErr}
 use Rattle.trie_model.specs.Maps.{limits}
 use Rattle.text_model.specs.LineKind.{LineKind}
-use Rattle.text_model.specs.ReadLine.{Line, Verify as proof_lines, Point, read_line}
-use Rattle.text_model.proofs.PointLines.{point_lines_are_within}
-use Rattle.proof_model.specs.Checked.{Cause, NotRead, NotAccepted, unless_refused, checked, point_checked}
+use Rattle.range_model.specs.Ranges.{Range}
+use Rattle.text_model.specs.ReadLine.{Line, Verify as proof_lines, Point, VerifyRange, read_line}
+use Rattle.text_model.proofs.PointLines.{point_lines_are_within, range_lines_are_within}
+use Rattle.proof_model.specs.Checked.{unless_refused, checked, point_checked, range_checked}
 use Rattle.proof_model.specs.Proofs.{PointProof}
+use Rattle.proof_model.specs.RangeProofs.{RangeProof, range_refusal}
+use Rattle.proof_model.specs.RangeWire.{range_of}
 use Rattle.proof_model.specs.Refusals.{Refusal, point_refusal}
 use Rattle.proof_model.specs.Wire as wire
 use Rattle.proof_model.specs.Wire.{point_of}
@@ -17,7 +20,7 @@ use Rattle.proof_check.specs.declared.verify_fault.VerifyFault.TheVariants as ch
 use Rattle.proof_check.specs.declared.wire_fault.WireKind.{WireKind}
 use Rattle.proof_check.specs.declared.wire_fault.WireKind.TheVariants as kinds
 use Rattle.proof_check.specs.declared.wire_fault.WireFault.{WireFault}
-use Rattle.run_model.specs.Verify.{Fault, NotUnderstood, read_verdict}
+use Rattle.run_model.specs.Verify.{NotUnderstood, read_verdict}
 use Rattle.verify_run.specs.Checks.{wire_fault, check_fault, IsRefused, AsLine}
 
 -- bytes that are no proof
@@ -44,12 +47,21 @@ checked_read w want key bytes p is = rw is refl
 pub accepted_read : (w : ℕ) (want key bytes : List ℕ) (p : PointProof) → point_of limits w bytes ≡ Ok p → point_refusal w key want p ≡ None → point_checked limits w want key bytes ≡ Ok p
 accepted_read w want key bytes p is none = sym (checked_read w want key bytes p is) ∙ ap (unless_refused p) none
 
+-- so of a range proof
+pub checked_range : (w : ℕ) (want : List ℕ) (asked : Range) (bytes : List ℕ) (p : RangeProof) → range_of limits w bytes ≡ Ok p → unless_refused p (range_refusal w asked want p) ≡ range_checked limits w want asked bytes
+unfolding range_checked
+checked_range w want asked bytes p is = rw is refl
+
+pub accepted_range : (w : ℕ) (want : List ℕ) (asked : Range) (bytes : List ℕ) (p : RangeProof) → range_of limits w bytes ≡ Ok p → range_refusal w asked want p ≡ None → range_checked limits w want asked bytes ≡ Ok p
+accepted_range w want asked bytes p is none = sym (checked_range w want asked bytes p is) ∙ ap (unless_refused p) none
+
 -- what is not read is not understood
 pub not_understood : (w : ℕ) (read : Result Line LineKind) → IsErr read → read_verdict w read ≡ Err NotUnderstood
 not_understood w (Err kind) bad = refl
 not_understood w (Ok line) bad = let no : ⊥ = cc bad in absurd no
 
--- a line that was read has a key within its limit
+-- a line that was read has a key within its limit, or a range that is one
 pub as_line : (line : List ℕ) (found : Line) → read_line proof_lines line ≡ Ok found → AsLine found
 as_line line (Point want key bytes) is = (point_lines_are_within line want key bytes is).key_short
+as_line line (VerifyRange want asked bytes) is = (range_lines_are_within line want asked bytes is).range
 as_line line other is = tt

@@ -1,12 +1,12 @@
-use Rattle.std.proofs.Common.{refl, sym, subst, ◌∙◌}
+use Rattle.std.proofs.Common.{refl, subst}
 use Rattle.bit_keys.specs.Branch.{width_of}
 use Rattle.trie_model.specs.Maps.{limits}
 use Rattle.proof_model.specs.Checked.{point_checked}
 use Rattle.proof_model.specs.Refusals.{point_refusal}
 use Rattle.proof_model.specs.Wire.{point_of}
 use Rattle.verify_run.specs.Checks.{IsRefused, check_fault}
-use Rattle.verify_run.proofs.PointFaults.{wire_refused, check_refused, checked_read, accepted_read}
-use Rattle.verify_run.proofs.checking.pairs_shown.Goals as goal
+use Rattle.verify_run.proofs.ProofFaults.{wire_refused, check_refused, checked_read, accepted_read}
+use Rattle.verify_run.proofs.point_lines.pairs_at.Goals as goal
 
 pub returns-in-Err-clause-err : goal.returns-in-Err-clause-err
 unfolding point_checked

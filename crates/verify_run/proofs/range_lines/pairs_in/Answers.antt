@@ -1,0 +1,28 @@
+use Rattle.std.proofs.Common.{refl, subst}
+use Rattle.bit_keys.specs.Branch.{width_of}
+use Rattle.trie_model.specs.Maps.{limits}
+use Rattle.proof_model.specs.Checked.{range_checked}
+use Rattle.proof_model.specs.RangeProofs.{range_refusal}
+use Rattle.proof_model.specs.RangeWire.{range_of}
+use Rattle.verify_run.specs.Checks.{IsRefused, check_fault}
+use Rattle.verify_run.proofs.ProofFaults.{wire_refused, check_refused, checked_range, accepted_range}
+use Rattle.verify_run.proofs.range_lines.pairs_in.Goals as goal
+
+pub returns-in-Err-clause-err : goal.returns-in-Err-clause-err
+unfolding range_checked
+returns-in-Err-clause-err c =
+    let w = width_of c.args.branch in
+    rw c.fault_of_wire.ensures
+    (wire_refused (range_refusal w c.args.range.now c.args.root.now) (range_of limits w c.args.bytes.now) c.in-Err.fault.kind c.in-Err.fault refl c.in-Err.ensures.exact)
+
+pub returns-in-Ok-check-clause-ok : goal.returns-in-Ok-check-clause-ok
+returns-in-Ok-check-clause-ok c =
+    let w = width_of c.args.branch in
+    (c.in-Ok.proof, accepted_range w c.args.root.now c.args.range.now c.args.bytes.now c.in-Ok.proof c.in-Ok.ensures.exact c.in-Ok-check.ensures, c.pairs_of.ensures)
+
+pub returns-clause-err : goal.returns-clause-err
+returns-clause-err c =
+    let w = width_of c.args.branch in
+    rw c.fault_of_check.ensures
+    (subst (λ checked. IsRefused checked (check_fault c.in-Err-check.fault)) (checked_range w c.args.root.now c.args.range.now c.args.bytes.now c.in-Ok.proof c.in-Ok.ensures.exact)
+    (check_refused c.in-Ok.proof (range_refusal w c.args.range.now c.args.root.now c.in-Ok.proof) c.in-Err-check.fault c.in-Err-check.ensures))
