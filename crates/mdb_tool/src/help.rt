@@ -15,7 +15,9 @@ failed, look whether the folder is there, whether you may write in it, and wheth
 
 FACTOR is 2, 4, 16 or 256, the most children that a node of the trie may have.
 KEY, VALUE and PROOF are hexadecimal digits, or - for no bytes.
+START and END are keys, the first and the last of a range, or * where it is open.
 ROOT is 64 hexadecimal digits, now for the store as it is, ~0 for the same, or empty.
+PAIRS is the most pairs that a proof may list, BYTES the most bytes of them; it lists one at least.
 
 commands:
   root FACTOR      reads lines from standard input and prints the root of the map that they make
@@ -32,14 +34,19 @@ commands:
                           get PLACE KEY     tells what is at KEY             value VALUE, or none
                           root PLACE        tells the root                   root ROOT
                           prove ROOT KEY    proves what is at KEY            proof PROOF
+                          range ROOT START END PAIRS BYTES
+                                            proves what is in a range        range PROOF
                           # a comment
                    what is pending at the end is committed too; PLACE is db, the store, or a view's N
   get FACTOR KEY   prints the value of KEY in the store: value VALUE, or none
   prove FACTOR ROOT KEY
                    prints the proof of what the map with that root has at KEY: proof PROOF
+  range FACTOR ROOT START END PAIRS BYTES
+                   prints the proof of what the map with that root has from START to END, or up to
+                   the last pair that it lists: range PROOF
   verify FACTOR    checks the proofs of standard input, each against the root that stands in its line;
                    it needs no store, and prints ok and how many pairs a proof shows
-                   lines: point ROOT KEY PROOF    # a comment
+                   lines: point ROOT KEY PROOF    range ROOT START END PROOF    # a comment
                    ROOT is 64 digits here, or empty; at a proof that is refused it ends
 
 examples:

@@ -1,11 +1,15 @@
 // The words of the command line.
 ghost use Rattle.std.specs.Prelude.{◌≡◌, ◌<◌, ℕ, List, Result, Some, Ok, Err, IfOk, IfErr, map, option_map, string_bytes};
-ghost use Rattle.run_model.specs.Command.{Command as ModelCommand, Job as ModelJob, job_of, job_words, job_with, no_words, key_words, get_words, prove_words, in_folder as in_folder_of, factor_word};
+ghost use Rattle.range_model.specs.Ranges.{Range as Bounds};
+ghost use Rattle.run_model.specs.Command.{Command as ModelCommand, Job as ModelJob, job_of, job_words, job_with, no_words, key_words, get_words, prove_words, range_words, end_word, in_folder as in_folder_of, factor_word};
 ghost use Rattle.bit_keys.specs.Branch.{width_of};
 ghost use Rattle.batch_text.specs.SeenLine.{seen_root};
-ghost use Rattle.mdb_tool.specs.ReadJob.{AreRead, seen_command, seen_job};
+ghost use Rattle.mdb_tool.specs.ReadJob.{AreRead, seen_command, seen_job, bounds_words, bytes_words, counts_words, asked_words};
 
-use batch_text::{KeyWord, RootWord, read_key_word, read_root_word};
+use batch_text::{
+    BoundWord, KeyWord, RangeWord, RootWord, read_bound_word, read_bytes_word, read_key_word,
+    read_pairs_word, read_root_word,
+};
 use bit_keys::Branch;
 
 /// A command, with what its own words say.
@@ -19,6 +23,14 @@ pub(crate) enum Command {
     Get(KeyWord),
     /// The proof of a key, in the map of a store that a root names.
     Prove(RootWord, KeyWord),
+    /// The proof of a range, in the map of a store that a root names, with so many pairs and so many bytes of them at
+    /// most.
+    Range {
+        root: RootWord,
+        range: RangeWord,
+        pairs: u32,
+        bytes: u32,
+    },
     /// Whether the proofs of the input are accepted.
     Verify,
 }
@@ -109,6 +121,95 @@ fn read_prove(words: &[String]) -> Result<Command, usize>
     Ok(Command::Prove(root, key))
 }
 
+// The range from a start to the end that a word stands for.
+fn read_end(start: Option<BoundWord>, word: &[u8]) -> Option<RangeWord>
+    ensures { result ≡ end_word start word.now }
+{
+    let end = read_bound_word(word)?;
+    RangeWord::between(start, end)
+}
+
+// The two bounds of a range, which are words 5 and 6, and the words behind them.
+fn read_bounds(words: &[String]) -> Result<(RangeWord, &[String]), usize>
+    ensures ok { IfOk result (λ read. (behind : Bounds → List (List ℕ) → Result ModelCommand ℕ) →
+        bounds_words behind (map string_bytes words.now) ≡ behind read.0 (map string_bytes read.1.now)) }
+    ensures err { IfErr result (λ place. (behind : Bounds → List (List ℕ) → Result ModelCommand ℕ) →
+        bounds_words behind (map string_bytes words.now) ≡ Err place) }
+{
+    let Some((word, words)) = words.split_first() else {
+        return Err(5);
+    };
+    let Some(start) = read_bound_word(word.as_bytes()) else {
+        return Err(5);
+    };
+    let Some((word, words)) = words.split_first() else {
+        return Err(6);
+    };
+    match read_end(start, word.as_bytes()) {
+        Some(range) => Ok((range, words)),
+        None => Err(6),
+    }
+}
+
+// How many bytes are asked for, which is word 8, and no word behind it.
+fn read_bytes(words: &[String]) -> Result<u32, usize>
+    ensures ok { IfOk result (λ bytes. (command : ℕ → ModelCommand) → bytes_words command (map string_bytes words.now) ≡ Ok (command bytes)) }
+    ensures err { IfErr result (λ place. (command : ℕ → ModelCommand) → bytes_words command (map string_bytes words.now) ≡ Err place) }
+{
+    let Some((word, others)) = words.split_first() else {
+        return Err(8);
+    };
+    match read_bytes_word(word.as_bytes()) {
+        Some(bytes) if others.is_empty() => Ok(bytes),
+        Some(_) => Err(9),
+        None => Err(8),
+    }
+}
+
+// How many pairs are asked for, which is word 7, and how many bytes of them.
+fn read_counts(words: &[String]) -> Result<(u32, u32), usize>
+    ensures ok { IfOk result (λ counts. (command : ℕ → ℕ → ModelCommand) →
+        counts_words command (map string_bytes words.now) ≡ Ok (command counts.0 counts.1)) }
+    ensures err { IfErr result (λ place. (command : ℕ → ℕ → ModelCommand) →
+        counts_words command (map string_bytes words.now) ≡ Err place) }
+{
+    let Some((word, others)) = words.split_first() else {
+        return Err(7);
+    };
+    let Some(pairs) = read_pairs_word(word.as_bytes()) else {
+        return Err(7);
+    };
+    let bytes = read_bytes(others)?;
+    Ok((pairs, bytes))
+}
+
+// The words of `range` behind its root: two bounds and two counts.
+fn read_asked(root: RootWord, words: &[String]) -> Result<Command, usize>
+    ensures { AreRead seen_command result (asked_words (seen_root root) (map string_bytes words.now)) }
+{
+    let (range, words) = read_bounds(words)?;
+    let (pairs, bytes) = read_counts(words)?;
+    Ok(Command::Range {
+        root,
+        range,
+        pairs,
+        bytes,
+    })
+}
+
+// The words of `range`: a root, and what is asked of its map.
+fn read_range(words: &[String]) -> Result<Command, usize>
+    ensures { AreRead seen_command result (range_words (map string_bytes words.now)) }
+{
+    let Some((word, others)) = words.split_first() else {
+        return Err(4);
+    };
+    match read_root_word(word.as_bytes()) {
+        Some(root) => read_asked(root, others),
+        None => Err(4),
+    }
+}
+
 // The job of a command without words of its own, by the words behind the command.
 fn read_plain_job(command: Command, words: &[String]) -> Result<Job, usize>
     ensures { AreRead seen_job result (job_words (no_words (seen_command command)) (map string_bytes words.now)) }
@@ -136,6 +237,15 @@ fn read_prove_job(words: &[String]) -> Result<Job, usize>
     Ok(Job { branch, command })
 }
 
+// The job of `range`, by the words behind the command.
+fn read_range_job(words: &[String]) -> Result<Job, usize>
+    ensures { AreRead seen_job result (job_words range_words (map string_bytes words.now)) }
+{
+    let (branch, own) = read_branch(words)?;
+    let command = read_range(own)?;
+    Ok(Job { branch, command })
+}
+
 // A job that uses a store, which has a folder.
 fn in_folder(folder: &str, job: Result<Job, usize>) -> Result<Job, usize>
     ensures { (meant : Result ModelJob ℕ) → AreRead seen_job job meant → AreRead seen_job result (in_folder_of folder.now meant) }
@@ -158,6 +268,7 @@ pub(crate) fn read_words(words: &[String]) -> Result<Job, usize>
         "apply" => in_folder(folder.as_str(), read_plain_job(Command::Apply, words)),
         "get" => in_folder(folder.as_str(), read_get_job(words)),
         "prove" => in_folder(folder.as_str(), read_prove_job(words)),
+        "range" => in_folder(folder.as_str(), read_range_job(words)),
         "verify" => read_plain_job(Command::Verify, words),
         _ => Err(2),
     }

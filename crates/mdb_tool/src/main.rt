@@ -16,6 +16,7 @@ mod opening;
 mod process;
 pub mod program;
 mod prove_command;
+mod range_command;
 mod root_command;
 pub mod status;
 #[cfg(test)]

@@ -59,7 +59,9 @@ fn lay_line(digests: &mut Digests, line: Line) -> Result<(), NoMemory>
         | Line::Get { .. }
         | Line::Root { .. }
         | Line::Prove { .. }
-        | Line::Point { .. } => Ok(()),
+        | Line::Point { .. }
+        | Line::RangeOf { .. }
+        | Line::VerifyRange { .. } => Ok(()),
         Line::Put { key, value } => digests.put(key, value_digest(&value)),
         Line::Del { key } => {
             digests.remove(&key);

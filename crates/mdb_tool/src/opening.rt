@@ -2,13 +2,14 @@
 ghost use Rattle.std.specs.Prelude.{◌≡◌, ◌≤◌, IfOk, IfErr};
 ghost use Rattle.bit_keys.specs.Branch.{width_of};
 ghost use Rattle.run_model.specs.Outside.{disk_seen};
-ghost use Rattle.mdb_tool.specs.Ends.{end_of, end_of_fault};
+ghost use Rattle.mdb_tool.specs.Ends.{end_of, end_of_fault, end_of_reading};
 ghost use Rattle.mdb_tool.specs.Opening.{KeepsMaps, IsOpen, FailsBy};
 
 use crate::status::Status;
 use bit_keys::Branch;
 use disk_world::Disk;
 use mdb_core::{Config, Db, DbFault};
+use script_run::SessionEnd;
 use std::alloc::Global;
 
 /// How a store is kept while a run uses it.
@@ -39,6 +40,16 @@ pub(crate) fn status_of_fault(fault: DbFault) -> Status
         | DbFault::TooLarge(_)
         | DbFault::NotParent
         | DbFault::Full => Status::NoMemory,
+    }
+}
+
+/// The status with which a run ends that could not read the store.
+pub(crate) fn status_of_reading(end: SessionEnd) -> Status
+    ensures { end_of result ≡ end_of_reading end }
+{
+    match end {
+        SessionEnd::Disk => Status::Disk,
+        _ => Status::NoMemory,
     }
 }
 

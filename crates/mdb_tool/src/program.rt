@@ -2,7 +2,7 @@
 ghost use Rattle.std.specs.Prelude.{map, string_bytes};
 ghost use Rattle.run_model.specs.Outside.{outside, disk_seen};
 ghost use Rattle.run_model.specs.Outcome.{IsComplete};
-ghost use Rattle.run_model.specs.Runs.{outcome, Needs, command_runs, TellsWords, WordsTouchNothing, ReadHasCause, WriteHasCause, DiskHasCause, StoreHasCause, InputLimitHasCause, TellsOwn, SharedRuns, RootPart, ApplyPart, GetPart, ProvePart, VerifyPart};
+ghost use Rattle.run_model.specs.Runs.{outcome, Needs, command_runs, TellsWords, WordsTouchNothing, ReadHasCause, WriteHasCause, DiskHasCause, StoreHasCause, InputLimitHasCause, TellsOwn, SharedRuns, RootPart, ApplyPart, GetPart, ProvePart, RangePart, VerifyPart};
 ghost use Rattle.bit_keys.specs.Branch.{width_of};
 ghost use Rattle.mdb_tool.specs.Ends.{end_of};
 ghost use Rattle.mdb_tool.specs.ReadJob.{seen_command};
@@ -11,6 +11,7 @@ use crate::apply_command::run_apply;
 use crate::get_command::run_get;
 use crate::job::{Command, Job, read_words};
 use crate::prove_command::run_prove;
+use crate::range_command::{Asked, run_range};
 use crate::root_command::run_root;
 use crate::status::Status;
 use crate::verify_command::run_verify;
@@ -62,6 +63,9 @@ pub fn run<S: Source, K: Sink, D: Disk>(
     ensures prove { let before = outside (S.left input.old) (S.faults input.old) (K.taken out.old) (K.faults out.old) (disk_seen D.words disk.old) in
         let after = outside (S.left input.new) (S.faults input.new) (K.taken out.new) (K.faults out.new) (disk_seen D.words disk.new) in
         ProvePart (map string_bytes words.now) before after (end_of result) }
+    ensures range { let before = outside (S.left input.old) (S.faults input.old) (K.taken out.old) (K.faults out.old) (disk_seen D.words disk.old) in
+        let after = outside (S.left input.new) (S.faults input.new) (K.taken out.new) (K.faults out.new) (disk_seen D.words disk.new) in
+        RangePart (map string_bytes words.now) before after (end_of result) }
     ensures verify { let before = outside (S.left input.old) (S.faults input.old) (K.taken out.old) (K.faults out.old) (disk_seen D.words disk.old) in
         let after = outside (S.left input.new) (S.faults input.new) (K.taken out.new) (K.faults out.new) (disk_seen D.words disk.new) in
         VerifyPart (map string_bytes words.now) before after (end_of result) }
@@ -93,6 +97,20 @@ fn run_job<S: Source, K: Sink, D: Disk>(
         Command::Apply => run_apply(alloc, branch, input, out, disk),
         Command::Get(key) => run_get(alloc, branch, key.as_slice(), out, disk),
         Command::Prove(root, key) => run_prove(alloc, branch, root, key.as_slice(), out, disk),
+        Command::Range {
+            root,
+            range,
+            pairs,
+            bytes,
+        } => {
+            let asked = Asked {
+                root,
+                range,
+                pairs,
+                bytes,
+            };
+            run_range(alloc, branch, &asked, out, disk)
+        }
         Command::Verify => run_verify(alloc, branch, input, out),
     }
 }

@@ -1,33 +1,23 @@
 // The command `prove`: the proof of a key, in the map of a store that a root names.
-ghost use Rattle.std.specs.Prelude.{◌≡◌, ◌≤◌, ℕ, List, Option, IfOk, IfErr, option_map, string_bytes};
+ghost use Rattle.std.specs.Prelude.{◌≤◌, ℕ, List, Option, IfOk, IfErr, option_map, string_bytes};
 ghost use Rattle.bit_keys.specs.Branch.{width_of};
 ghost use Rattle.batch_text.specs.SeenLine.{seen_root};
 ghost use Rattle.run_model.specs.Outside.{outside, disk_seen};
 ghost use Rattle.run_model.specs.Command.{Prove};
 ghost use Rattle.run_model.specs.Prove.{ProveRuns, prove_outcome};
 ghost use Rattle.run_model.specs.Runs.{SharedRuns};
-ghost use Rattle.mdb_tool.specs.Ends.{end_of, end_of_reading};
+ghost use Rattle.mdb_tool.specs.Ends.{end_of};
 ghost use Rattle.mdb_tool.specs.Finding.{Finds, IsLineOf};
 ghost use Rattle.mdb_tool.specs.Opening.{KeepsMaps, FailsBy};
 
-use crate::opening::{open_store, status_of_fault};
+use crate::opening::{open_store, status_of_fault, status_of_reading};
 use crate::status::Status;
 use batch_text::RootWord;
 use bit_keys::Branch;
 use disk_world::Disk;
 use mdb_base::{Sink, write_all};
-use script_run::{SessionEnd, proof_line};
+use script_run::proof_line;
 use std::alloc::Global;
-
-// The status with which a run ends that could not read the store.
-fn status_of_reading(end: SessionEnd) -> Status
-    ensures { end_of result ≡ end_of_reading end }
-{
-    match end {
-        SessionEnd::Disk => Status::Disk,
-        _ => Status::NoMemory,
-    }
-}
 
 // The line of the proof of a key in the store of a disk; None where the store has no map that the root names.
 fn look_up<D: Disk>(

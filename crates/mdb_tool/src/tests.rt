@@ -180,7 +180,7 @@ fn roots_are_the_hashes_of_their_strings(rt: HostRuntime) -> Result<(), Fail> {
 fn what_is_not_understood_is_told_by_its_place(rt: HostRuntime) -> Result<(), Fail> {
     let root: &[&str] = &["-", "root", "16"];
     let verify: &[&str] = &["-", "verify", "16"];
-    let rows: [(&[&str], &[u8], Status); 34] = [
+    let rows: [(&[&str], &[u8], Status); 39] = [
         // Words come first.
         (&[], b"x", Status::BadWords(1)),
         (&["-"], b"x", Status::BadWords(2)),
@@ -224,6 +224,32 @@ fn what_is_not_understood_is_told_by_its_place(rt: HostRuntime) -> Result<(), Fa
             &["D", "prove", "16", "now", "-", "6b"],
             b"x",
             Status::BadWords(6),
+        ),
+        // `range` has a root, two bounds of which the end is not below the start, and two counts.
+        (
+            &["-", "range", "16", "now", "*", "*", "1", "1"],
+            b"x",
+            Status::BadWords(1),
+        ),
+        (
+            &["D", "range", "16", "now", "0b", "0a", "1", "1"],
+            b"x",
+            Status::BadWords(6),
+        ),
+        (
+            &["D", "range", "16", "now", "0a", "*", "4097", "1"],
+            b"x",
+            Status::BadWords(7),
+        ),
+        (
+            &["D", "range", "16", "now", "*", "0a", "1", "0"],
+            b"x",
+            Status::BadWords(8),
+        ),
+        (
+            &["D", "range", "16", "now", "*", "*", "1", "1", "1"],
+            b"x",
+            Status::BadWords(9),
         ),
         (&["-", "verify", "16", "now"], b"x", Status::BadWords(4)),
         // Then lines.

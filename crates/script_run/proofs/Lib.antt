@@ -14,3 +14,4 @@ pub mod UsedBytes
 pub mod ScriptSoFar
 pub mod LineCauses
 pub mod WholeScripts
+pub mod OnePair

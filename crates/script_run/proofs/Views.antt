@@ -17,7 +17,7 @@ use Rattle.view_model.specs.Calls.{Refusal, view_refused, parent_refused, make_r
 use Rattle.view_model.specs.Maps.{parent_map}
 use Rattle.session_model.specs.Limits.{payload_limit}
 use Rattle.session_model.specs.Refusals.{cause_words}
-use Rattle.session_model.specs.Session.{Session, Step, Stop, Limit, view_at, map_at, viewed, view_step, view, close, told, told_unless, told_state, told_proof, prints, refuses, or_limit}
+use Rattle.session_model.specs.Session.{Session, Step, Stop, Limit, view_at, map_at, viewed, view_step, view, close, told, told_unless, told_state, told_proof, told_range, prints, refuses, or_limit}
 use Rattle.mdb_core.specs.Stores.{DbState, Keeps, is_failed}
 use Rattle.mdb_core.specs.Places.{Refuses, GetFails, fault_of_refusal, number_at, map_at as map_of_place}
 use Rattle.mdb_core.specs.declared.store.At.{At}
@@ -171,6 +171,11 @@ module _ (m : Map) (db : DbState) (pending : List Change) (files : Files) (keeps
       → OnOk r (db' ≡ db) → files' ≡ files → now ≡ old → Went m (reads (told_proof found)) Disk r db' pending files' old now
   proof_got None db' files' old now rose r text = got (told_proof None) refl db' files' old now rose r text
   proof_got (Some bytes) db' files' old now rose r text = got (told_proof (Some bytes)) refl db' files' old now rose r text
+
+  pub range_got : (found : Option (List ℕ)) (db' : DbState) (files' : Files) (old now : Moments) (rose : Type 0) (r : Result (String Global) SessionEnd) → IfOk r (λ t. string_bytes t ≡ (told_range found).text) → IfErr r (λ end. (end ≡ no_memory) ⊎ ((end ≡ failed_disk) × rose))
+      → OnOk r (db' ≡ db) → files' ≡ files → now ≡ old → Went m (reads (told_range found)) Disk r db' pending files' old now
+  range_got None db' files' old now rose r text = got (told_range None) refl db' files' old now rose r text
+  range_got (Some bytes) db' files' old now rose r text = got (told_range (Some bytes)) refl db' files' old now rose r text
 
 -- ---- values that are read
 pub some_map : {o : Option Map} {m : Map} → o ≡ Some m → IsSome o

@@ -17,7 +17,7 @@ ghost use Rattle.script_run.specs.Steps.{IsAt, IsDone, IsMade, PartRuns, RunsUnp
 use crate::SessionEnd;
 use crate::committing::{commit, take};
 use crate::pending::Pending;
-use crate::proving::prove;
+use crate::proving::{prove, range};
 use crate::telling::{get, print, root};
 use crate::viewing::{close, state, view};
 use batch_text::{InputKind, KeyBytes, Line, LineFault, LineKind, read_line};
@@ -101,8 +101,15 @@ fn do_line<D: Disk>(
         Line::Get { place, key } => get(alloc, db, place, &key, disk),
         Line::Root { place } => root(alloc, db, place),
         Line::Prove { root, key } => prove(alloc, db, root, &key, disk),
+        Line::RangeOf {
+            root,
+            range: asked,
+            pairs,
+            bytes,
+        } => range(alloc, db, root, &asked, pairs, bytes, disk),
         // No script has a line that checks a proof.
         Line::Point { .. } => Ok(String::new(alloc)),
+        Line::VerifyRange { .. } => Ok(String::new(alloc)),
     }
 }
 

@@ -336,7 +336,7 @@ fn lines_that_are_refused_say_why(rt: HostRuntime) -> Result<(), Fail> {
 #[test]
 fn the_store_and_its_views_are_read(rt: HostRuntime) -> Result<(), Fail> {
     let alloc = rt.alloc();
-    let rows: [(&[u8], &[(&str, &str)]); 3] = [
+    let rows: [(&[u8], &[(&str, &str)]); 4] = [
         // What is pending is not read.
         (
             b"put 0a 61\nget db 0a\nroot db\n",
@@ -366,6 +366,16 @@ fn the_store_and_its_views_are_read(rt: HostRuntime) -> Result<(), Fail> {
                 ("closed 2", ""),
                 ("commit 3 ", A),
                 ("root ", A),
+            ],
+        ),
+        // A proof of a range without bounds has the pairs, and no node.
+        (
+            b"put 0a 61\nput 0b 62\nrange now * * 9 99\ncommit\nrange ~0 * * 9 99\nrange ~1 * * 9 99\n",
+            &[
+                ("range 010100000000", ""),
+                ("commit 1 ", A_AND_B),
+                ("range 01010002010a0161010b01620000", ""),
+                ("refused not held", ""),
             ],
         ),
     ];

@@ -153,6 +153,55 @@ fn what_a_store_proves_is_accepted(rt: HostRuntime) -> Result<(), Fail> {
     )
 }
 
+/// The proof of the range from 0a to 0a of {0a: 61, 0b: 62}: the pair, and twice the path of 0a, which has the node
+/// with both keys below it, with the hashes of 00 01 01 61 08 0a and of 00 01 01 62 08 0b, and the node of 0a.
+const FROM_0A_TO_0A: &str = "range 01010001010a0161\
+                             02040000020a00d38df253fa5cbfd74aa88e547efbbfaa1ccd15bbf741cb6b2629e460732170\
+                             0b9d40dbe52f0ba969c65b4736bc11aada91c0d503f1d1c4d1af62ecfcb393c1e4080a01016100\
+                             02040000020a00d38df253fa5cbfd74aa88e547efbbfaa1ccd15bbf741cb6b2629e460732170\
+                             0b9d40dbe52f0ba969c65b4736bc11aada91c0d503f1d1c4d1af62ecfcb393c1e4080a01016100\n";
+
+// Its root is the hash of 02, 0a and the one hash, 0b and the other, 00 04 00. A range of a map without pairs, as one
+// without bounds, has no paths.
+#[test]
+fn ranges_of_a_store_are_proved(rt: HostRuntime) -> Result<(), Fail> {
+    let alloc = rt.alloc();
+    let turns: &[Turn] = &[
+        (
+            APPLY,
+            b"put 0a 61\nput 0b 62\n",
+            Status::Done,
+            "commit 1 64653653211cedc5bb2d1cac77a3abfdc2ab40c9da2fa9a986d1db8642b9fb6c\n",
+        ),
+        (
+            &["D", "range", "16", "now", "0a", "0a", "10", "1000"],
+            b"",
+            Status::Done,
+            FROM_0A_TO_0A,
+        ),
+        (
+            &["D", "range", "16", "~0", "*", "*", "10", "1000"],
+            b"",
+            Status::Done,
+            "range 01010002010a0161010b01620000\n",
+        ),
+        (
+            &["D", "range", "16", "empty", "*", "*", "1", "1"],
+            b"",
+            Status::Done,
+            "range 010100000000\n",
+        ),
+        (
+            &["D", "range", "16", "~1", "*", "*", "1", "1"],
+            b"",
+            Status::NotHeld,
+            "",
+        ),
+        (APPLY, b"range now 0b 0a 1 1\n", Status::BadLine(1), ""),
+    ];
+    assert_turns(&rt, alloc, &mut MemDisk::new(alloc), turns)
+}
+
 // What is committed before the line stays, and what is pending is dropped.
 #[test]
 fn a_bad_line_ends_a_script(rt: HostRuntime) -> Result<(), Fail> {

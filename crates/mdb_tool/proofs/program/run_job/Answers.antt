@@ -58,6 +58,24 @@ returns-in-Prove-clause-runs g c =
     let runs = subst (λ (key : List ℕ). ProveRuns (seen_root c.in-Prove.root) key w before after (end_of c.run_prove.result)) c.as_slice-in-Prove.ensures (c.run_prove.ensures.prove left reads) in
     subst (λ (command : Command). command_runs (seen_command command) w before after (end_of c.run_prove.result)) (sym c.in-Prove.is) runs
 
+pub returns-in-Range-clause-shared : goal.returns-in-Range-clause-shared
+returns-in-Range-clause-shared g c =
+    let w = width_of c.args.job.branch in
+    let left = g.S.Source.left c.args.input.now in
+    let reads = g.S.Source.faults c.args.input.now in
+    let before = outside left reads (g.K.Sink.taken c.args.out.now) (g.K.Sink.faults c.args.out.now) (disk_seen g.D.Disk.words c.args.disk.now) in
+    let after = outside left reads (g.K.Sink.taken c.run_range.new.out) (g.K.Sink.faults c.run_range.new.out) (disk_seen g.D.Disk.words c.run_range.new.disk) in
+    subst (λ (command : Command). SharedRuns (seen_command command) w before after (end_of c.run_range.result)) (sym c.in-Range.is) (c.run_range.ensures.shared left reads)
+
+pub returns-in-Range-clause-runs : goal.returns-in-Range-clause-runs
+returns-in-Range-clause-runs g c =
+    let w = width_of c.args.job.branch in
+    let left = g.S.Source.left c.args.input.now in
+    let reads = g.S.Source.faults c.args.input.now in
+    let before = outside left reads (g.K.Sink.taken c.args.out.now) (g.K.Sink.faults c.args.out.now) (disk_seen g.D.Disk.words c.args.disk.now) in
+    let after = outside left reads (g.K.Sink.taken c.run_range.new.out) (g.K.Sink.faults c.run_range.new.out) (disk_seen g.D.Disk.words c.run_range.new.disk) in
+    subst (λ (command : Command). command_runs (seen_command command) w before after (end_of c.run_range.result)) (sym c.in-Range.is) (c.run_range.ensures.range left reads)
+
 pub returns-in-Verify-clause-shared : goal.returns-in-Verify-clause-shared
 returns-in-Verify-clause-shared g c =
     let disk = disk_seen g.D.Disk.words c.args.disk.now in

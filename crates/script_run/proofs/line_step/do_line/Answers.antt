@@ -9,7 +9,7 @@ use Rattle.batch_text.specs.SeenLine.{seen_line, seen_place, seen_root}
 use Rattle.batch_text.specs.declared.line.Line.{Line}
 use Rattle.mdb_core.specs.declared.fault.DbFault.TheVariants.{Disk}
 use Rattle.mdb_core.proofs.KeptStores.{kept_stands, kept_same}
-use Rattle.session_model.specs.Named.{proved}
+use Rattle.session_model.specs.Named.{proved, range_proved}
 use Rattle.session_model.specs.Session.{or_limit, line_step, commit, view, told, told_proof}
 use Rattle.run_model.specs.Script.{Keeps as KeepsSteps}
 use Rattle.script_run.specs.Ends.{end_of}
@@ -18,7 +18,7 @@ use Rattle.script_run.proofs.KeptFiles.{kept_leaves}
 use Rattle.script_run.proofs.KeptSteps.{idle}
 use Rattle.script_run.proofs.MadeLines.{Went, quiet_done, quiet_stopped, quiet_kept, quiet_told, went_done, went_stopped, went_kept, went_told}
 use Rattle.script_run.proofs.QuietLines.{skip_quiet, pend_quiet}
-use Rattle.script_run.proofs.Views.{state_quiet, told_quiet, told_got, proof_got}
+use Rattle.script_run.proofs.Views.{state_quiet, told_quiet, told_got, proof_got, range_got}
 use Rattle.script_run.proofs.line_step.do_line.Goals as goal
 
 pub returns-in-Skip-clause-done : goal.returns-in-Skip-clause-done
@@ -537,8 +537,69 @@ returns-in-Prove-clause-told g c = λ tells m keeps synced.
     (proof_got m db pending (d.seen c.args.disk.now) keeps (proved w m (seen_root c.in-Prove.root) c.in-Prove.key.items) c.prove.new.db files old now _ c.prove.result (subst (λ (key : List ℕ). IfOk c.prove.result (λ t. string_bytes t ≡ (told_proof (proved w m (seen_root c.in-Prove.root) key)).text)) c.deref-in-Prove.ensures (c.prove.ensures.text (contents_too d.tells tells) m keeps)) c.prove.ensures.end c.prove.ensures.stays c.prove.ensures.untouched.seen c.prove.ensures.untouched.images) in
     went_told s made Disk c.prove.result c.prove.new.db pending files old now went (kept_leaves db m (d.seen c.args.disk.now) old keeps synced)
 
-pub returns-clause-done : goal.returns-clause-done
-returns-clause-done g c = λ tells m keeps.
+pub returns-in-RangeOf-clause-done : goal.returns-in-RangeOf-clause-done
+returns-in-RangeOf-clause-done g c = λ tells m keeps.
+    let d = g.D.Disk.words in
+    let db = c.args.db.now in
+    let w = db.width in
+    let pending = c.args.pending.now in
+    let s = session_of m db pending in
+    let made = or_limit (line_step w s (seen_line c.args.line)) in
+    let files = d.seen c.range.new.disk in
+    let old = d.moments c.args.disk.now in
+    let now = d.moments c.range.new.disk in
+    let went : Went m made Disk c.range.result c.range.new.db pending files old now = subst (λ (line : Line). Went m (or_limit (line_step w s (seen_line line))) Disk c.range.result c.range.new.db pending files old now) (sym c.in-RangeOf.is)
+    (range_got m db pending (d.seen c.args.disk.now) keeps (range_proved w m (seen_root c.in-RangeOf.root) c.in-RangeOf.asked c.in-RangeOf.pairs c.in-RangeOf.bytes) c.range.new.db files old now _ c.range.result (c.range.ensures.text tells m keeps) c.range.ensures.end c.range.ensures.stays c.range.ensures.untouched.seen c.range.ensures.untouched.images) in
+    went_done s made Disk c.range.result c.range.new.db pending files old now went
+
+pub returns-in-RangeOf-clause-stopped : goal.returns-in-RangeOf-clause-stopped
+returns-in-RangeOf-clause-stopped g c = λ tells m keeps.
+    let d = g.D.Disk.words in
+    let db = c.args.db.now in
+    let w = db.width in
+    let pending = c.args.pending.now in
+    let s = session_of m db pending in
+    let made = or_limit (line_step w s (seen_line c.args.line)) in
+    let files = d.seen c.range.new.disk in
+    let old = d.moments c.args.disk.now in
+    let now = d.moments c.range.new.disk in
+    let went : Went m made Disk c.range.result c.range.new.db pending files old now = subst (λ (line : Line). Went m (or_limit (line_step w s (seen_line line))) Disk c.range.result c.range.new.db pending files old now) (sym c.in-RangeOf.is)
+    (range_got m db pending (d.seen c.args.disk.now) keeps (range_proved w m (seen_root c.in-RangeOf.root) c.in-RangeOf.asked c.in-RangeOf.pairs c.in-RangeOf.bytes) c.range.new.db files old now _ c.range.result (c.range.ensures.text tells m keeps) c.range.ensures.end c.range.ensures.stays c.range.ensures.untouched.seen c.range.ensures.untouched.images) in
+    went_stopped s made Disk c.range.result c.range.new.db pending files old now went
+
+pub returns-in-RangeOf-clause-kept : goal.returns-in-RangeOf-clause-kept
+returns-in-RangeOf-clause-kept g c = λ tells m keeps synced.
+    let d = g.D.Disk.words in
+    let db = c.args.db.now in
+    let w = db.width in
+    let pending = c.args.pending.now in
+    let s = session_of m db pending in
+    let made = or_limit (line_step w s (seen_line c.args.line)) in
+    let files = d.seen c.range.new.disk in
+    let old = d.moments c.args.disk.now in
+    let now = d.moments c.range.new.disk in
+    let went : Went m made Disk c.range.result c.range.new.db pending files old now = subst (λ (line : Line). Went m (or_limit (line_step w s (seen_line line))) Disk c.range.result c.range.new.db pending files old now) (sym c.in-RangeOf.is)
+    (range_got m db pending (d.seen c.args.disk.now) keeps (range_proved w m (seen_root c.in-RangeOf.root) c.in-RangeOf.asked c.in-RangeOf.pairs c.in-RangeOf.bytes) c.range.new.db files old now _ c.range.result (c.range.ensures.text (contents_too d.tells tells) m keeps) c.range.ensures.end c.range.ensures.stays c.range.ensures.untouched.seen c.range.ensures.untouched.images) in
+    went_kept s made Disk c.range.result c.range.new.db pending files old now went (kept_leaves db m (d.seen c.args.disk.now) old keeps synced)
+    (λ lost taken. subst (λ n. KeepsSteps m (played s made).steps taken taken old n) (sym c.range.ensures.untouched.images) (idle m (played s made).steps taken old (kept_leaves db m (d.seen c.args.disk.now) old keeps synced)))
+
+pub returns-in-RangeOf-clause-told : goal.returns-in-RangeOf-clause-told
+returns-in-RangeOf-clause-told g c = λ tells m keeps synced.
+    let d = g.D.Disk.words in
+    let db = c.args.db.now in
+    let w = db.width in
+    let pending = c.args.pending.now in
+    let s = session_of m db pending in
+    let made = or_limit (line_step w s (seen_line c.args.line)) in
+    let files = d.seen c.range.new.disk in
+    let old = d.moments c.args.disk.now in
+    let now = d.moments c.range.new.disk in
+    let went : Went m made Disk c.range.result c.range.new.db pending files old now = subst (λ (line : Line). Went m (or_limit (line_step w s (seen_line line))) Disk c.range.result c.range.new.db pending files old now) (sym c.in-RangeOf.is)
+    (range_got m db pending (d.seen c.args.disk.now) keeps (range_proved w m (seen_root c.in-RangeOf.root) c.in-RangeOf.asked c.in-RangeOf.pairs c.in-RangeOf.bytes) c.range.new.db files old now _ c.range.result (c.range.ensures.text (contents_too d.tells tells) m keeps) c.range.ensures.end c.range.ensures.stays c.range.ensures.untouched.seen c.range.ensures.untouched.images) in
+    went_told s made Disk c.range.result c.range.new.db pending files old now went (kept_leaves db m (d.seen c.args.disk.now) old keeps synced)
+
+pub returns-in-Point-clause-done : goal.returns-in-Point-clause-done
+returns-in-Point-clause-done g c = λ tells m keeps.
     let d = g.D.Disk.words in
     let db = c.args.db.now in
     let w = db.width in
@@ -551,8 +612,8 @@ returns-clause-done g c = λ tells m keeps.
     let quiet : IsQuiet made (Ok c.new-in-Point.result) db pending files = subst (λ (line : Line). IsQuiet (or_limit (line_step w s (seen_line line))) (Ok c.new-in-Point.result) db pending files) (sym c.in-Point.is) (skip_quiet m db pending files (Ok c.new-in-Point.result) keeps c.new-in-Point.ensures.bytes) in
     quiet_done s made (Ok c.new-in-Point.result) db pending files quiet
 
-pub returns-clause-told : goal.returns-clause-told
-returns-clause-told g c = λ tells m keeps synced.
+pub returns-in-Point-clause-told : goal.returns-in-Point-clause-told
+returns-in-Point-clause-told g c = λ tells m keeps synced.
     let d = g.D.Disk.words in
     let db = c.args.db.now in
     let w = db.width in
@@ -564,3 +625,31 @@ returns-clause-told g c = λ tells m keeps synced.
     let now = d.moments c.args.disk.now in
     let quiet : IsQuiet made (Ok c.new-in-Point.result) db pending files = subst (λ (line : Line). IsQuiet (or_limit (line_step w s (seen_line line))) (Ok c.new-in-Point.result) db pending files) (sym c.in-Point.is) (skip_quiet m db pending files (Ok c.new-in-Point.result) keeps c.new-in-Point.ensures.bytes) in
     quiet_told s made (Ok c.new-in-Point.result) db pending files old now refl (kept_leaves db m (d.seen c.args.disk.now) old keeps synced) quiet
+
+pub returns-clause-done : goal.returns-clause-done
+returns-clause-done g c = λ tells m keeps.
+    let d = g.D.Disk.words in
+    let db = c.args.db.now in
+    let w = db.width in
+    let pending = c.args.pending.now in
+    let s = session_of m db pending in
+    let made = or_limit (line_step w s (seen_line c.args.line)) in
+    let files = d.seen c.args.disk.now in
+    let old = d.moments c.args.disk.now in
+    let now = d.moments c.args.disk.now in
+    let quiet : IsQuiet made (Ok c.new-in-VerifyRange.result) db pending files = subst (λ (line : Line). IsQuiet (or_limit (line_step w s (seen_line line))) (Ok c.new-in-VerifyRange.result) db pending files) (sym c.in-VerifyRange.is) (skip_quiet m db pending files (Ok c.new-in-VerifyRange.result) keeps c.new-in-VerifyRange.ensures.bytes) in
+    quiet_done s made (Ok c.new-in-VerifyRange.result) db pending files quiet
+
+pub returns-clause-told : goal.returns-clause-told
+returns-clause-told g c = λ tells m keeps synced.
+    let d = g.D.Disk.words in
+    let db = c.args.db.now in
+    let w = db.width in
+    let pending = c.args.pending.now in
+    let s = session_of m db pending in
+    let made = or_limit (line_step w s (seen_line c.args.line)) in
+    let files = d.seen c.args.disk.now in
+    let old = d.moments c.args.disk.now in
+    let now = d.moments c.args.disk.now in
+    let quiet : IsQuiet made (Ok c.new-in-VerifyRange.result) db pending files = subst (λ (line : Line). IsQuiet (or_limit (line_step w s (seen_line line))) (Ok c.new-in-VerifyRange.result) db pending files) (sym c.in-VerifyRange.is) (skip_quiet m db pending files (Ok c.new-in-VerifyRange.result) keeps c.new-in-VerifyRange.ensures.bytes) in
+    quiet_told s made (Ok c.new-in-VerifyRange.result) db pending files old now refl (kept_leaves db m (d.seen c.args.disk.now) old keeps synced) quiet

@@ -1,6 +1,6 @@
 use Rattle.std.proofs.Common.{◌≡◌, ℕ, subst}
 use Rattle.proof_model.specs.Proofs.{point_proof}
-use Rattle.script_run.proofs.proving.prove_at.Goals as goal
+use Rattle.script_run.proofs.proving.point_at.Goals as goal
 
 pub returns-in-Ok-clause-proof : goal.returns-in-Ok-clause-proof
 returns-in-Ok-clause-proof g c = λ tells m n keeps spot.

@@ -1,0 +1,64 @@
+use Rattle.std.proofs.Common.{◌≡◌, ℕ, Option, List, ap, ◌∙◌, subst}
+use Rattle.std.specs.Prelude.{option_map, string_bytes}
+use Rattle.bit_keys.specs.Branch.{width_of}
+use Rattle.range_model.specs.Ranges.{Range}
+use Rattle.batch_text.specs.SeenLine.{seen_root}
+use Rattle.text_model.specs.Texts.{range_text}
+use Rattle.session_model.specs.Named.{range_proved}
+use Rattle.run_model.specs.Outside.{disk_seen}
+use Rattle.run_model.specs.Range.{range_outcome}
+use Rattle.mdb_core.specs.Stores.{DbState, is_failed}
+use Rattle.mdb_tool.proofs.Openings.{open_stands, reading_fails, untouched_keeps}
+use Rattle.mdb_tool.specs.Finding.{IsLineOf}
+use Rattle.mdb_tool.proofs.ReadEnds.{found_in, line_of_range}
+use Rattle.mdb_tool.proofs.range_command.look_up.Goals as goal
+
+pub returns-in-Err-range_line-clause-fails : goal.returns-in-Err-range_line-clause-fails
+returns-in-Err-range_line-clause-fails g c =
+    let words = g.D.Disk.words in
+    let e = c.in-Err-range_line.ensures in
+    rw c.status_of_reading.ensures
+    (reading_fails (width_of c.args.branch) (disk_seen words c.args.disk.now) (disk_seen words c.open_store.new.disk) (disk_seen words c.range_line.new.disk) c.in-Ok.db c.in-Err-range_line.end c.in-Ok.ensures.opened c.open_store.ensures.later c.range_line.ensures.untouched e.end)
+
+pub returns-in-Err-range_line-clause-opens : goal.returns-in-Err-range_line-clause-opens
+returns-in-Err-range_line-clause-opens g c =
+    let words = g.D.Disk.words in
+    untouched_keeps (disk_seen words c.args.disk.now) (disk_seen words c.open_store.new.disk) (disk_seen words c.range_line.new.disk) c.open_store.ensures.opens c.range_line.ensures.untouched
+
+pub returns-in-Ok-close-clause-found : goal.returns-in-Ok-close-clause-found
+returns-in-Ok-close-clause-found g c =
+    let words = g.D.Disk.words in
+    let w = width_of c.args.branch in
+    let root = seen_root c.args.asked.now.root in
+    let asked = c.args.asked.now.range in
+    let pairs = c.args.asked.now.pairs in
+    let bytes = c.args.asked.now.bytes in
+    let line = option_map string_bytes c.in-Ok-range_line.line in
+    rw c.close.ensures.disk
+    (found_in (IsLineOf (range_outcome w root asked pairs bytes) line) w (disk_seen words c.args.disk.now) (disk_seen words c.open_store.new.disk) (disk_seen words c.range_line.new.disk) c.in-Ok.db c.in-Ok.ensures.opened c.range_line.ensures.untouched
+    (λ tells m keeps. line_of_range (range_proved w m root asked pairs bytes) line
+    (subst (λ (r : Range). line ≡ option_map range_text (range_proved w m root r pairs bytes)) c.in-Ok-to_range.ensures
+    (subst (λ (v : ℕ). line ≡ option_map range_text (range_proved v m root c.in-Ok-to_range.range pairs bytes)) c.in-Ok.ensures.opened.width (c.in-Ok-range_line.ensures.text tells m keeps)))))
+
+pub returns-in-Ok-close-clause-opens : goal.returns-in-Ok-close-clause-opens
+returns-in-Ok-close-clause-opens g c =
+    let words = g.D.Disk.words in
+    rw c.close.ensures.disk
+    (untouched_keeps (disk_seen words c.args.disk.now) (disk_seen words c.open_store.new.disk) (disk_seen words c.range_line.new.disk) c.open_store.ensures.opens c.range_line.ensures.untouched)
+
+pub returns-clause-fails : goal.returns-clause-fails
+returns-clause-fails g c =
+    let same = c.in-Ok-range_line.ensures.stays in
+    let opened = c.in-Ok.ensures.opened in
+    let failed = c.in-Err-close.ensures.err in
+    let no : ⊥ = cc (ap (λ (s : DbState). is_failed s) same ∙ opened.works, failed.1) in
+    absurd no
+
+pub returns-clause-opens : goal.returns-clause-opens
+returns-clause-opens g c =
+    let words = g.D.Disk.words in
+    rw c.close.ensures.disk
+    (untouched_keeps (disk_seen words c.args.disk.now) (disk_seen words c.open_store.new.disk) (disk_seen words c.range_line.new.disk) c.open_store.ensures.opens c.range_line.ensures.untouched)
+
+pub returns-in-Err-to_range-clause-fails : goal.returns-in-Err-to_range-clause-fails
+returns-in-Err-to_range-clause-fails g c = λ told m stands. open_stands (width_of c.args.branch) (disk_seen g.D.Disk.words c.args.disk.now) (disk_seen g.D.Disk.words c.open_store.new.disk) c.in-Ok.db c.in-Ok.ensures.opened told m stands
