@@ -1,4 +1,5 @@
-"""What a point proof is, written plainly, for the scripts beside this one: how one is made, spelled, read and checked.
+"""What point proofs and range proofs are, written plainly, for the scripts beside this one: how they are made, spelled,
+read and checked.
 
 It follows docs/definitions.md and docs/formats.md and nothing of the program. A key of the trie is a tuple of tokens here,
 of `width` bits each. Run as a script it compares itself with proofs that are written out by hand, byte for byte.
@@ -7,10 +8,10 @@ import hashlib
 import os
 from dataclasses import dataclass, replace
 
-from plain import VALUE, key_form, root_of, sized, tokens_of, uvarint, value_digest
+from plain import KEY, VALUE, key_form, root_of, sized, tokens_of, uvarint, value_digest
 
 NODE_BITS = 2_048
-VERSION, POINT = 1, 4
+VERSION, RANGE, POINT = 1, 1, 4
 ZERO = bytes(32)
 
 
@@ -24,11 +25,32 @@ class Node:
 
 
 @dataclass(frozen=True)
-class Proof:
+class PointProof:
     """The value at a key, or None, and the nodes of a path."""
 
     value: "bytes | None"
     path: tuple
+
+
+@dataclass(frozen=True)
+class Range:
+    """From a byte string to a byte string, both among them. None bounds nothing."""
+
+    start: "bytes | None" = None
+    end: "bytes | None" = None
+
+    def holds(self, key):
+        return (self.start is None or self.start <= key) and (self.end is None or key <= self.end)
+
+
+@dataclass(frozen=True)
+class RangeProof:
+    """Pairs of a range, whether others of it follow, and the paths of its start and of the end up to which they tell."""
+
+    cut: bool
+    pairs: tuple
+    start: tuple
+    end: tuple
 
 
 # The trie of a map, and paths in it.
@@ -46,9 +68,9 @@ def children_form(children):
     return uvarint(len(children)) + b"".join(uvarint(index) + some for index, some in children)
 
 
-def node_id(node, width):
-    """The SHA-256 of the node's string: children, digest, key."""
-    return sha(children_form(node.children) + digest_form(node.digest) + key_form(node.key, width))
+def node_string(node, width):
+    """What is hashed for a node: children, digest, key."""
+    return children_form(node.children) + digest_form(node.digest) + key_form(node.key, width)
 
 
 def begins(front, key):
@@ -78,7 +100,7 @@ def nodes_of(pairs, width):
     for key in reversed(keys):
         nodes[key] = Node(key, digests.get(key), tuple(sorted(below[key])))
         if parents[key] is not None:
-            below[parents[key]].append((key[len(parents[key])], node_id(nodes[key], width)))
+            below[parents[key]].append((key[len(parents[key])], sha(node_string(nodes[key], width))))
     return nodes
 
 
@@ -87,7 +109,8 @@ def path_in(nodes, wanted):
 
     Where no node's key begins it, this is the root node alone.
     """
-    on_the_way = [nodes[wanted[:count]] for count in range(len(wanted) + 1) if wanted[:count] in nodes]
+    most = min(len(wanted), max(map(len, nodes), default=0))
+    on_the_way = [nodes[wanted[:count]] for count in range(most + 1) if wanted[:count] in nodes]
     if not on_the_way:
         return tuple(nodes[key] for key in sorted(nodes)[:1])
     deepest = on_the_way[-1].key
@@ -99,7 +122,37 @@ def path_in(nodes, wanted):
 def prove(pairs, key, width=4, nodes=None):
     """The proof of a key in a map. Where many are made, the nodes may be handed in."""
     nodes = nodes_of(pairs, width) if nodes is None else nodes
-    return Proof(pairs.get(key), path_in(nodes, tokens_of(key, width)))
+    return PointProof(pairs.get(key), path_in(nodes, tokens_of(key, width)))
+
+
+def taken(pairs, count, size):
+    """As many of the pairs as a count and a number of bytes allow, but one at least."""
+    used = 0
+    for place, (key, value) in enumerate(pairs):
+        used += len(key) + len(value)
+        if place and (place >= count or used > size):
+            return pairs[:place]
+    return pairs
+
+
+def reached(asked, cut, pairs):
+    """The range that pairs tell of: what was asked for, or where they are cut up to the last one."""
+    return replace(asked, end=pairs[-1][0]) if cut and pairs else asked
+
+
+def path_to(nodes, bound, width):
+    """The path of a bound, which has no nodes where nothing bounds."""
+    return () if bound is None else path_in(nodes, tokens_of(bound, width))
+
+
+def prove_range(pairs, asked, count, size, width=4, nodes=None):
+    """The proof of a range of a map, in which so many pairs of so many bytes may be listed."""
+    nodes = nodes_of(pairs, width) if nodes is None else nodes
+    inside = tuple(it for it in sorted(pairs.items()) if asked.holds(it[0]))
+    some = taken(inside, count, size)
+    cut = some != inside
+    bounds = reached(asked, cut, some)
+    return RangeProof(cut, some, path_to(nodes, bounds.start, width), path_to(nodes, bounds.end, width))
 
 
 # Bytes.
@@ -116,6 +169,16 @@ def path_form(path, width):
 def spelled(proof, width=4):
     """The bytes of a point proof: version, kind, the value behind its flag, the path."""
     return bytes([VERSION, POINT]) + digest_form(proof.value) + path_form(proof.path, width)
+
+
+def pairs_form(pairs):
+    return uvarint(len(pairs)) + b"".join(sized(key) + sized(value) for key, value in pairs)
+
+
+def spelled_range(proof, width=4):
+    """The bytes of a range proof: version, kind, whether it is cut, the pairs, both paths."""
+    paths = path_form(proof.start, width) + path_form(proof.end, width)
+    return bytes([VERSION, RANGE, proof.cut]) + pairs_form(proof.pairs) + paths
 
 
 class Wrong(Exception):
@@ -202,15 +265,36 @@ class Reader:
             found.append(self.node(width))
         return tuple(found)
 
+    def pairs(self):
+        found = []
+        for _ in range(self.number()):
+            found.append((self.sized(KEY, "LongKey"), self.sized(VALUE, "LongValue")))
+        return tuple(found)
+
+    def head(self, kind):
+        self.byte(VERSION, "Version")
+        self.byte(kind, "Kind")
+
+    def end(self):
+        if self.at != len(self.some):
+            raise Wrong("Trailing", self.at)
+
 
 def read(some, width=4):
     """The point proof that bytes stand for. Raises Wrong where they stand for none."""
     reader = Reader(some)
-    reader.byte(VERSION, "Version")
-    reader.byte(POINT, "Kind")
-    proof = Proof(reader.maybe(VALUE, "LongValue"), reader.path(width))
-    if reader.at != len(some):
-        raise Wrong("Trailing", reader.at)
+    reader.head(POINT)
+    proof = PointProof(reader.maybe(VALUE, "LongValue"), reader.path(width))
+    reader.end()
+    return proof
+
+
+def read_range(some, width=4):
+    """The range proof that bytes stand for. Raises Wrong where they stand for none."""
+    reader = Reader(some)
+    reader.head(RANGE)
+    proof = RangeProof(reader.flag(), reader.pairs(), reader.path(width), reader.path(width))
+    reader.end()
     return proof
 
 
@@ -239,29 +323,61 @@ class Stub:
         return self.place[:-1]
 
 
-def items_of(proof, key, width):
-    """The items of a proof of a key: its value, and what its nodes tell beside the key.
+@dataclass(frozen=True)
+class Claim:
+    """A proof as it is checked, whatever its form: pairs that are to be all that a map has in a range, and two paths."""
 
-    A node with another key gives its digest. A child gives a stub where its slot begins neither the key nor the key of a
-    node of the path. All else is dropped.
+    reached: Range
+    pairs: tuple
+    start: tuple
+    end: tuple
+
+
+def point_claim(key, proof):
+    """A proof of a key as one of the range from it to it, with one path."""
+    pairs = () if proof.value is None else ((key, proof.value),)
+    return Claim(Range(key, key), pairs, proof.path, ())
+
+
+def range_claim(asked, proof):
+    return Claim(reached(asked, proof.cut, proof.pairs), proof.pairs, proof.start, proof.end)
+
+
+def items_of(claim, width):
+    """The items of a claim: the values of its pairs, and what its nodes tell beside the range.
+
+    A node whose key is not in the range gives its digest. A child gives a stub where all keys with its slot in front lie
+    before the range, or all behind it, and its slot begins the key of no node of the paths. All else is dropped.
     """
-    wanted = tokens_of(key, width)
-    found = [] if proof.value is None else [Val(wanted, value_digest(proof.value))]
-    for node in proof.path:
-        if node.digest is not None and node.key != wanted:
+    start, end = (None if it is None else tokens_of(it, width) for it in (claim.reached.start, claim.reached.end))
+
+    def is_before(place):
+        return start is not None and place < start
+
+    def is_behind(place):
+        return end is not None and end < place
+
+    def is_beside(slot):
+        return (is_before(slot) and not begins(slot, start)) or is_behind(slot)
+
+    nodes = (*claim.start, *claim.end)
+    found = [Val(tokens_of(key, width), value_digest(value)) for key, value in claim.pairs]
+    for node in nodes:
+        if node.digest is not None and (is_before(node.key) or is_behind(node.key)):
             found.append(Val(node.key, node.digest))
         for index, some in node.children:
             slot = (*node.key, index)
-            if not begins(slot, wanted) and not any(begins(slot, it.key) for it in proof.path):
+            if is_beside(slot) and not any(begins(slot, it.key) for it in nodes):
                 found.append(Stub(slot, some))
-    return sorted(found, key=lambda it: it.place)
+    # a node that both paths have is one node
+    return sorted({*found}, key=lambda it: it.place)
 
 
-def id_of_items(items, width):
+def id_of_items(items, width, hashed=sha):
     """The ID of an item list: 32 zeros for none, else the SHA-256 of the top node's string.
 
     The node's key is the common run of all positions. A child is the ID of the stub of its slot, or that of the items
-    below the slot.
+    below the slot. Another hash may be handed in.
     """
     if not items:
         return ZERO
@@ -274,35 +390,68 @@ def id_of_items(items, width):
     children = []
     for token, some in sorted(below.items()):
         stubs = [it.id for it in some if isinstance(it, Stub) and it.place == (*top, token)]
-        children.append((token, stubs[0] if stubs else id_of_items(some, width)))
-    return node_id(Node(top, here[0] if here else None, tuple(children)), width)
+        children.append((token, stubs[0] if stubs else id_of_items(some, width, hashed)))
+    return hashed(node_string(Node(top, here[0] if here else None, tuple(children)), width))
 
 
-def path_break(path):
-    """The place of the first node whose key does not strictly extend the one before, or None."""
-    for place, (one, other) in enumerate(zip(path, path[1:]), 1):
-        if not begins(one.key, other.key) or len(one.key) == len(other.key):
-            return place
-    return None
+def rises(key, other):
+    return key < other
 
 
-def refusal(root, key, proof, width=4):
-    """Why a point proof is refused, as the text of its cause, or None where it is accepted."""
-    place = path_break(proof.path)
-    if place is not None:
-        return f"path order {place}"
-    have = id_of_items(items_of(proof, key, width), width)
+def extends(node, other):
+    return begins(node.key, other.key) and len(node.key) < len(other.key)
+
+
+def first_break(some, follows):
+    """The place of the first one that does not follow the one before it, or None."""
+    return next((place for place, it in enumerate(zip(some, some[1:]), 1) if not follows(*it)), None)
+
+
+def first_place(some, test):
+    """The first place where a test holds, or None."""
+    return next((place for place, it in enumerate(some) if test(it)), None)
+
+
+def refusal(root, asked, claim, width=4):
+    """Why a claim on a range is refused, as the text of its first cause, or None where it is accepted.
+
+    The nodes of both paths are counted through, those of the start first.
+    """
+    keys, shown, behind = [key for key, _ in claim.pairs], {it.key: it for it in claim.start}, len(claim.start)
+    places = [
+        ("unsorted", 0, first_break(keys, rises)),
+        ("outside", 0, first_place(keys, lambda it: not asked.holds(it))),
+        ("path order", 0, first_break(claim.start, extends)),
+        ("path order", behind, first_break(claim.end, extends)),
+        ("paths differ", behind, first_place(claim.end, lambda it: shown.get(it.key, it) != it)),
+    ]
+    for cause, before, place in places:
+        if place is not None:
+            return f"{cause} {before + place}"
+    have = id_of_items(items_of(claim, width), width)
     return None if have == root else f"root differs {have.hex()} {root.hex()}"
 
 
 def answer(root, key, some, width=4):
-    """Whether bytes are accepted as a proof, and what is told: how many pairs they show, or the cause."""
+    """Whether bytes are accepted as a proof of a key, and what is told: how many pairs they show, or the cause."""
     try:
-        proof = read(some, width)
+        claim = point_claim(key, read(some, width))
     except Wrong as fault:
         return False, f"bytes at {fault.args[1]}"
-    cause = refusal(root, key, proof, width)
-    return cause is None, cause or f"ok {0 if proof.value is None else 1}"
+    return told(claim, refusal(root, Range(key, key), claim, width))
+
+
+def range_answer(root, asked, some, width=4):
+    """Whether bytes are accepted as a proof of a range, and what is told."""
+    try:
+        claim = range_claim(asked, read_range(some, width))
+    except Wrong as fault:
+        return False, f"bytes at {fault.args[1]}"
+    return told(claim, refusal(root, asked, claim, width))
+
+
+def told(claim, cause):
+    return cause is None, cause or f"ok {len(claim.pairs)}"
 
 
 # Proofs that are written out by hand.
@@ -315,9 +464,12 @@ def hashed(*parts):
 
 C, E = hashed("00 01 01 61 08 12"), hashed("00 01 01 62 08 13")
 P, Q = hashed("00 01 01 61 10 12 34"), hashed("00 01 01 62 08 50")
+A, B = hashed("00 01 01 61 08 0a"), hashed("00 01 01 62 08 0b")
 ONE = {b"\x6b": b"\x76"}
 TWO = {b"\x12": b"\x61", b"\x13": b"\x62"}
 APART = {b"\x12\x34": b"\x61", b"\x50": b"\x62"}
+NEAR = {b"\x0a": b"\x61", b"\x0b": b"\x62"}
+NEAR_ROOT = hashed("02 0a", A, "0b", B, "00 04 00")
 
 # A map, its root, a key, and the bytes of the proof, at factor 16.
 WORKED = [
@@ -326,6 +478,51 @@ WORKED = [
     (TWO, hashed("02 02", C, "03", E, "00 04 10"), "14", f"01 04 00 01 04 10 00 02 02 {C} 03 {E}"),
     (APART, hashed("02 01", P, "05", Q, "00 00"), "12ff", f"01 04 00 02 00 00 02 01 {P} 05 {Q} 10 12 34 01 01 61 00"),
     ({}, "00" * 32, "6b", "01 04 00 00"),
+]
+
+# The pairs of NEAR, and the path of 0a and of all keys that it begins: the node above both keys, and that of 0a.
+PAIR, OTHER, UNLIKE = "01 0a 01 61", "01 0b 01 62", "01 0a 01 63"
+ABOVE, BELOW = f"04 00 00 02 0a {A} 0b {B}", "08 0a 01 01 61 00"
+WAY = f"02 {ABOVE} {BELOW}"
+
+# A map, its root, a start and an end, how many pairs and bytes are allowed, and the bytes of the proof, at factor 16.
+WORKED_RANGES = [
+    (NEAR, NEAR_ROOT, ("*", "*"), 10, 100, f"01 01 00 02 {PAIR} {OTHER} 00 00"),
+    (NEAR, NEAR_ROOT, ("*", "*"), 10, 1, f"01 01 01 01 {PAIR} 00 {WAY}"),
+    (NEAR, NEAR_ROOT, ("*", "*"), 1, 100, f"01 01 01 01 {PAIR} 00 {WAY}"),
+    (NEAR, NEAR_ROOT, ("*", "*"), 10, 3, f"01 01 01 01 {PAIR} 00 {WAY}"),
+    (NEAR, NEAR_ROOT, ("*", "*"), 2, 4, f"01 01 00 02 {PAIR} {OTHER} 00 00"),
+    (NEAR, NEAR_ROOT, ("0a", "0a"), 10, 1000, f"01 01 00 01 {PAIR} {WAY} {WAY}"),
+    (NEAR, NEAR_ROOT, ("0a01", "0a02"), 10, 100, f"01 01 00 00 {WAY} {WAY}"),
+    (NEAR, NEAR_ROOT, ("-", "0a"), 10, 100, f"01 01 00 01 {PAIR} 01 {ABOVE} {WAY}"),
+    (NEAR, NEAR_ROOT, ("0b01", "*"), 10, 100, f"01 01 00 00 02 {ABOVE} 08 0b 01 01 62 00 00"),
+    (ONE, hashed("00 01 01 76 08 6b"), ("*", "*"), 1, 1, "01 01 00 01 01 6b 01 76 00 00"),
+    ({}, "00" * 32, ("*", "*"), 1, 1, "01 01 00 00 00 00"),
+    ({}, "00" * 32, ("0a", "0b"), 4096, 2_097_152, "01 01 00 00 00 00"),
+]
+
+# A start and an end, bytes that are no proof of this range of NEAR, and why.
+REFUSED_RANGES = [
+    (("*", "*"), f"01 01 00 02 {OTHER} {PAIR} 00 00", "unsorted 1"),
+    (("*", "*"), f"01 01 00 03 {PAIR} {OTHER} {OTHER} 00 00", "unsorted 2"),
+    (("0a", "0a"), f"01 01 00 02 {PAIR} {OTHER} 00 00", "outside 1"),
+    (("0b", "*"), f"01 01 00 02 {PAIR} {OTHER} {WAY} 00", "outside 0"),
+    (("0a", "0a"), f"01 01 00 01 {PAIR} 02 {BELOW} {BELOW} 00", "path order 1"),
+    (("0a", "0a"), f"01 01 00 01 {PAIR} {WAY} 02 {BELOW} {ABOVE}", "path order 3"),
+    (("0a", "0a"), f"01 01 00 01 {PAIR} {WAY} 02 {ABOVE} 08 0a 01 01 63 00", "paths differ 3"),
+    (("0a", "0a"), f"01 01 00 01 {PAIR} {WAY} 01 04 00 00 01 0a {A}", "paths differ 2"),
+    # of several causes the first
+    (("0a", "0a"), f"01 01 00 02 {OTHER} {PAIR} 00 00", "unsorted 1"),
+    (("0a", "0a"), f"01 01 00 01 {OTHER} 02 {BELOW} {BELOW} 00", "outside 0"),
+    (("0a", "0a"), f"01 01 00 01 {PAIR} {WAY} 03 {ABOVE} 08 0a 01 01 63 00 {BELOW}", "path order 4"),
+    # a pair is left out, is not so, or is said to be the last
+    (("*", "*"), f"01 01 00 01 {PAIR} 00 00", f"root differs {A} {NEAR_ROOT}"),
+    (("*", "*"), f"01 01 00 01 {OTHER} 00 00", f"root differs {B} {NEAR_ROOT}"),
+    (("*", "*"), "01 01 00 00 00 00", f"root differs {'00' * 32} {NEAR_ROOT}"),
+    (("*", "*"), f"01 01 00 01 {PAIR} 00 {WAY}", f"root differs {A} {NEAR_ROOT}"),
+    (("0a", "0a"), f"01 01 00 00 {WAY} {WAY}", f"root differs {hashed('01 0b', B, '00 04 00')} {NEAR_ROOT}"),
+    # a list that is cut and has no pair tells of the whole range
+    (("*", "*"), "01 01 01 00 00 00", f"root differs {'00' * 32} {NEAR_ROOT}"),
 ]
 
 # Bytes that are no proof at factor 16, with what is wrong and where.
@@ -359,12 +556,46 @@ FAULTS = [
     ("01 04 00 00 00", "Trailing", 4),
 ]
 
+# So of range proofs.
+RANGE_FAULTS = [
+    ("", "Short", 0),
+    ("00", "Version", 0),
+    ("01", "Short", 1),
+    ("01 04 00 00", "Kind", 1),
+    ("01 01", "Short", 2),
+    ("01 01 02", "Flag", 2),
+    ("01 01 00", "Varint Short", 3),
+    ("01 01 01 80 00", "Varint NotShortest", 3),
+    ("01 01 01" + "ff" * 9 + "02", "Varint Long", 3),
+    ("01 01 01" + "ff" * 9 + "01", "Varint Short", 13),
+    ("01 01 00 01", "Varint Short", 4),
+    ("01 01 00 01 81 02" + "00" * 257 + "00 00 00", "LongKey", 4),
+    ("01 01 00 01 02 0a", "Short", 5),
+    ("01 01 00 01 01 0a", "Varint Short", 6),
+    ("01 01 00 01 01 0a 81 80 10", "LongValue", 6),
+    ("01 01 00 01 01 0a 01", "Short", 7),
+    ("01 01 00 02 01 0a 00", "Varint Short", 7),
+    ("01 01 00 00", "Varint Short", 4),
+    ("01 01 00 00 01 84 10", "LongKey", 5),
+    ("01 01 00 00 01 04 11", "Padding", 6),
+    ("01 01 00 00 00", "Varint Short", 5),
+    ("01 01 00 00 00 01 07 12", "Tokens", 6),
+    ("01 01 00 00 00 01 08 6b 00 01 10", "Index", 10),
+    ("01 01 00 00 00 00 00", "Trailing", 6),
+    (f"01 01 00 01 {PAIR} 00 00 00", "Trailing", 10),
+]
 
-def is_read(some, width=4):
+
+def is_read(some, width=4, reads=read):
     try:
-        return read(some, width)
+        return reads(some, width)
     except Wrong as fault:
         return fault.args
+
+
+def bound_of(word):
+    """A bound by its word: a star for none, a dash for no bytes, or its bytes in hexadecimal."""
+    return None if word == "*" else bytes.fromhex(word.replace("-", ""))
 
 
 def selftest():
@@ -379,8 +610,26 @@ def selftest():
             assert answer(root, key, spelled(doubled)) == (False, f"path order {len(proof.path)}"), (pairs, key)
     for text, *fault in FAULTS:
         assert is_read(bytes.fromhex(text)) == tuple(fault), (text, fault, is_read(bytes.fromhex(text)))
+    ranges_as_written()
     for width in (1, 2, 4, 8):
-        proves_all({bytes([n % 3, n][: n % 3]) + bytes([n // 7]): bytes(n) for n in range(40)}, width)
+        pairs = {bytes([n % 3, n][: n % 3]) + bytes([n // 7]): bytes(n) for n in range(40)}
+        proves_all(pairs, width)
+        proves_ranges(pairs, width)
+
+
+def ranges_as_written():
+    for pairs, root, bounds, count, size, text in WORKED_RANGES:
+        root, asked, some = bytes.fromhex(root), Range(*map(bound_of, bounds)), bytes.fromhex(text)
+        proof = prove_range(pairs, asked, count, size)
+        assert root_of(pairs) == root and spelled_range(proof) == some, (pairs, asked, spelled_range(proof).hex())
+        assert read_range(some) == proof, (pairs, asked)
+        assert range_answer(root, asked, some) == (True, f"ok {len(proof.pairs)}"), (pairs, asked)
+    for bounds, text, cause in REFUSED_RANGES:
+        told = range_answer(bytes.fromhex(NEAR_ROOT), Range(*map(bound_of, bounds)), bytes.fromhex(text))
+        assert told == (False, cause), (bounds, text, told)
+    for text, *fault in RANGE_FAULTS:
+        told = is_read(bytes.fromhex(text), reads=read_range)
+        assert told == tuple(fault), (text, fault, told)
 
 
 def proves_all(pairs, width):
@@ -391,6 +640,23 @@ def proves_all(pairs, width):
         some = spelled(proof, width)
         assert read(some, width) == proof, (key, width)
         assert answer(root, key, some, width) == (True, f"ok {int(key in pairs)}"), (key, width)
+
+
+def proves_ranges(pairs, width):
+    """Ranges between keys of a map, and beside them, have proofs that are read back and accepted, whatever is allowed."""
+    nodes, root = nodes_of(pairs, width), root_of(pairs, width)
+    bounds = [None, b"", *sorted(pairs)[1::9], *(it + b"\0" for it in sorted(pairs)[::11]), b"\xff\xff"]
+    for start in bounds:
+        for end in bounds:
+            if start is not None and end is not None and end < start:
+                continue
+            asked = Range(start, end)
+            inside = sum(map(asked.holds, pairs))
+            for count, size in ((100, 10_000), (3, 10_000), (100, 50), (1, 1)):
+                proof = prove_range(pairs, asked, count, size, width, nodes)
+                some = spelled_range(proof, width)
+                assert read_range(some, width) == proof and proof.cut == (len(proof.pairs) < inside), (asked, width)
+                assert range_answer(root, asked, some, width) == (True, f"ok {len(proof.pairs)}"), (asked, width)
 
 
 if __name__ == "__main__":

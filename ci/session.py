@@ -4,10 +4,12 @@ It follows docs/formats.md and docs/definitions.md and nothing of the program. A
 it was made on, and its own number. The store has a path too, the numbers that were committed.
 """
 from plain import KEY, VALUE, laid, payload, root_of
-from plain_proofs import ZERO, prove, spelled
+from plain_proofs import ZERO, Range, prove, prove_range, spelled, spelled_range
 
 NUMBERS, DEPTH, WEIGHT = 1_000_000, 64, 268_435_456
 PAYLOAD, PAIRS = 33_554_432, 1_000_000
+# What may be asked of a range: the bytes of a bound, how many pairs, and how many bytes of them.
+BOUND, LISTED, SIZE = KEY + 1, 4_096, 2_097_152
 
 
 class BadLine(Exception):
@@ -55,6 +57,22 @@ def root_word(word):
     return bytes_of(word, 32)
 
 
+def bound_word(word):
+    """None for a star, else the bytes of a bound."""
+    return None if word == b"*" else bytes_of(word, BOUND)
+
+
+def count_up_to(limit):
+    """Reads the word of a number from 1 to a limit."""
+
+    def count_of(word):
+        if not 1 <= number_of(word) <= limit:
+            raise BadLine
+        return number_of(word)
+
+    return count_of
+
+
 def hexed(some):
     return some.hex().encode() or b"-"
 
@@ -71,6 +89,7 @@ WORDS = {
     b"get": (place_of, lambda it: bytes_of(it, KEY)),
     b"root": (place_of,),
     b"prove": (root_word, lambda it: bytes_of(it, KEY)),
+    b"range": (root_word, bound_word, bound_word, count_up_to(LISTED), count_up_to(SIZE)),
 }
 
 
@@ -208,6 +227,15 @@ class Session:
         if pairs is None:
             return self.tell(b"refused not held")
         return self.tell(b"proof", hexed(spelled(prove(pairs, key, self.width), self.width)))
+
+    def do_range(self, root, start, end, count, size):
+        if start is not None and end is not None and end < start:
+            raise BadLine
+        pairs = self.named(root)
+        if pairs is None:
+            return self.tell(b"refused not held")
+        proof = prove_range(pairs, Range(start, end), count, size, self.width)
+        return self.tell(b"range", hexed(spelled_range(proof, self.width)))
 
     def do(self, line):
         words = line.replace(b"\t", b" ").split(b" ")
