@@ -8,7 +8,7 @@ use Rattle.std.specs.Int.Count.{count_leading_zeros, leading_unique}
 use Rattle.std.specs.List.{common_prefix_len}
 use Rattle.base_model.proofs.Bits.{length-bits_of, bits_of-injective}
 use Rattle.base_model.proofs.PackedBits.{length-bits_of_bytes}
-use Rattle.bit_keys.proofs.KeyFacts.{IsKey, key_bytes, drop_past, same_default}
+use Rattle.bit_keys.proofs.KeyFacts.{IsKey, key_bytes, drop_past}
 use Rattle.trie_model.specs.Bits.{bits_of, bits_of_bytes, packed, common_prefix, is_prefix}
 
 -- what two fronts have in common
@@ -198,28 +198,21 @@ length-packed (a ∷ b ∷ c ∷ d ∷ e ∷ f ∷ []) = omega arith
 length-packed (a ∷ b ∷ c ∷ d ∷ e ∷ f ∷ g ∷ []) = omega arith
 length-packed (a ∷ b ∷ c ∷ d ∷ e ∷ f ∷ g ∷ h ∷ k) = let r = length-packed k in omega arith
 
--- a byte at hand is that of the list
-at_hand : (N x : ℕ) (bs : List ℕ) → N < length bs → x ≡ get_or bs N x → x ≡ get_or bs N 0
-at_hand N x bs h e = e ∙ same_default bs N x 0 h
-
 -- bytes that differ lie inside of the key, and share fewer than eight bits
-pub before_fits : (m n N x y : ℕ) (bs cs : List ℕ) (k l : List Bool) → IsKey m bs k → IsKey n cs l → N ≡ common_prefix_len eqb bs cs → N < length bs → N < length cs → x ≡ get_or bs N x → y ≡ get_or cs N y →
-    (8 * N < m) × (count_leading_zeros 8 (bit_xor x y) < 8)
-before_fits m n N x y bs cs k l e f p h j u v =
-    let s : count_leading_zeros 8 (bit_xor (get_or bs N 0) (get_or cs N 0)) < 8 = subst (λ N. count_leading_zeros 8 (bit_xor (get_or bs N 0) (get_or cs N 0)) < 8) (sym p) (leading_small bs cs (key_bytes m bs k e) (key_bytes n cs l f) (omega arith) (omega arith)) in (
-      omega (arith, h, length-packed (take m (bits_of_bytes bs)), length-take m (bits_of_bytes bs), ap length e.2),
-      subst (λ x. count_leading_zeros 8 (bit_xor x y) < 8) (sym (at_hand N x bs h u)) (subst (λ y. count_leading_zeros 8 (bit_xor (get_or bs N 0) y) < 8) (sym (at_hand N y cs j v)) s),
-    )
+pub before_fits : (m n N : ℕ) (bs cs : List ℕ) (k l : List Bool) → IsKey m bs k → IsKey n cs l → N ≡ common_prefix_len eqb bs cs → N < length bs → N < length cs →
+    (8 * N < m) × (count_leading_zeros 8 (bit_xor (get_or bs N 0) (get_or cs N 0)) < 8)
+before_fits m n N bs cs k l e f p h j = (
+  omega (arith, h, length-packed (take m (bits_of_bytes bs)), length-take m (bits_of_bytes bs), ap length e.2),
+  subst (λ N. count_leading_zeros 8 (bit_xor (get_or bs N 0) (get_or cs N 0)) < 8) (sym p) (leading_small bs cs (key_bytes m bs k e) (key_bytes n cs l f) (omega arith) (omega arith)),
+)
 
 -- what two keys share, where their bytes differ
-pub shared_apart : (m n N s x y : ℕ) (bs cs : List ℕ) (k l : List Bool) → IsKey m bs k → IsKey n cs l → N ≡ common_prefix_len eqb bs cs → N < length bs → N < length cs → x ≡ get_or bs N x → y ≡ get_or cs N y →
-    s ≡ 8 * N + count_leading_zeros 8 (bit_xor x y) → min (min m n) s ≡ length (common_prefix k l)
-shared_apart m n N s x y bs cs k l e f p h j u v w =
+pub shared_apart : (m n N s : ℕ) (bs cs : List ℕ) (k l : List Bool) → IsKey m bs k → IsKey n cs l → N ≡ common_prefix_len eqb bs cs → N < length bs → N < length cs →
+    s ≡ 8 * N + count_leading_zeros 8 (bit_xor (get_or bs N 0) (get_or cs N 0)) → min (min m n) s ≡ length (common_prefix k l)
+shared_apart m n N s bs cs k l e f p h j w =
     let b : length (common_prefix (bits_of_bytes bs) (bits_of_bytes cs)) ≡ 8 * N + count_leading_zeros 8 (bit_xor (get_or bs N 0) (get_or cs N 0)) =
     shared_bytes bs cs (key_bytes m bs k e) (key_bytes n cs l f) (omega arith) (omega arith) ∙ ap (λ N. 8 * N + count_leading_zeros 8 (bit_xor (get_or bs N 0) (get_or cs N 0))) (sym p) in
-    let t : s ≡ length (common_prefix (bits_of_bytes bs) (bits_of_bytes cs)) =
-    w ∙ ap (λ x. 8 * N + count_leading_zeros 8 (bit_xor x y)) (at_hand N x bs h u) ∙ ap (λ y. 8 * N + count_leading_zeros 8 (bit_xor (get_or bs N 0) y)) (at_hand N y cs j v) ∙ sym b in
-    ap (λ s. min (min m n) s) t
+    ap (λ s. min (min m n) s) (w ∙ sym b)
     ∙ regroup (length (common_prefix (bits_of_bytes bs) (bits_of_bytes cs)))
     ∙ sym (shared_of_fronts m n (bits_of_bytes bs) (bits_of_bytes cs) (omega (arith, e.1, length-bits_of_bytes bs)) (omega (arith, f.1, length-bits_of_bytes cs)))
     ∙ ap (λ k. length (common_prefix k (take n (bits_of_bytes cs)))) e.0 ∙ ap (λ l. length (common_prefix k l)) f.0

@@ -5,7 +5,6 @@ use Rattle.std.proofs.lemmas.List.{take-append-drop, take-append-le, drop-append
 use Rattle.std.proofs.lemmas.Bool.{cases_lt}
 use Rattle.base_model.proofs.Bits.{length-bits_of, number_of-bits_of, number-small}
 use Rattle.trie_model.specs.Bits.{bits_of, number_of, bits_of_bytes, token_at}
-use Rattle.bit_keys.proofs.KeyFacts.{same_default}
 use Rattle.bit_keys.specs.Branch.{width_of}
 use Rattle.bit_keys.specs.declared.branch.Branch.{Branch}
 use Rattle.bit_keys.specs.declared.branch.Branch.TheVariants.{B2, B4, B16, B256}
@@ -74,11 +73,10 @@ token_of_front w n m k h =
     ∙ ap number_of (take-take w (m - n) (drop n k) (omega arith))
 
 -- the token that a key reads out of one byte
-pub token_is : (w n m x : ℕ) (bs : List ℕ) (k : List Bool) → take m (bits_of_bytes bs) ≡ k → m ≤ 8 * length bs → ((i : ℕ) → get_or bs i 0 < 256) → 0 < w → n % 8 + w ≤ 8 → n + w ≤ length k → x ≡ get_or bs (n / 8) x → x / 2 ^ (8 - w - n % 8) % 2 ^ w ≡ token_at w n k
-token_is w n m x bs k e b f p h l g =
+pub token_is : (w n m : ℕ) (bs : List ℕ) (k : List Bool) → take m (bits_of_bytes bs) ≡ k → m ≤ 8 * length bs → ((i : ℕ) → get_or bs i 0 < 256) → 0 < w → n % 8 + w ≤ 8 → n + w ≤ length k → get_or bs (n / 8) 0 / 2 ^ (8 - w - n % 8) % 2 ^ w ≡ token_at w n k
+token_is w n m bs k e b f p h l =
     let j : n + w ≤ m = omega (arith, l, ap length e, length-take m (bits_of_bytes bs)) in
-    ap (λ x. x / 2 ^ (8 - w - n % 8) % 2 ^ w) (g ∙ same_default bs (n / 8) x 0 (omega arith))
-    ∙ sym (token_of_bytes w n bs f h (omega arith))
+    sym (token_of_bytes w n bs f h (omega arith))
     ∙ sym (token_of_front w n m (bits_of_bytes bs) j)
     ∙ ap (token_at w n) e
 

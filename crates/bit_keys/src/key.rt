@@ -13,17 +13,21 @@ ghost use Rattle.bit_keys.specs.Keys.{IsFilledUp};
 
 use crate::branch::Branch;
 use crate::memory::NoMemory;
+use smallvec::SmallVec;
 use std::alloc::Global;
 use std::cmp::Ordering;
 use std::hash::{Hash, Hasher};
 use std::marker::Model;
+
+/// The bytes of a key, in the key itself where there are few, so that most keys take no allocation.
+type KeyBytes = SmallVec<u8, 32>;
 
 /// A list of bits, the highest bit of its first byte in front.
 #[derive(Debug, Drop)]
 pub struct Key {
     bits: u64,
     /// The bits in as many bytes as they need, the last one filled up with zeros.
-    bytes: Vec<u8>,
+    bytes: KeyBytes,
 }
 
 impl Model for Key {
@@ -67,7 +71,7 @@ impl Key {
         let Some(bits) = (bytes.len() as u64).checked_mul(8) else {
             return Err(NoMemory);
         };
-        let bytes = Vec::from_slice(alloc, bytes)?;
+        let bytes = SmallVec::from_slice(alloc, bytes)?;
         Ok(Key { bits, bytes })
     }
 
@@ -78,25 +82,29 @@ impl Key {
         ensures bytes { AreBytes bytes.items }
     {
         let bits = 8 * bytes.len() as u64;
-        Key { bits, bytes }
+        Key {
+            bits,
+            bytes: SmallVec::from_vec(bytes),
+        }
     }
 
     /// The key of so many bits of these bytes, which are to be as many as the bits need and have
     /// zeros behind them.
-    pub fn from_parts(bits: u64, bytes: Vec<u8>) -> Option<Key>
-        ensures { SomeIff result (IsFilledUp bits bytes.items) (take bits (bits_of_bytes bytes.items)) }
+    pub fn from_parts(alloc: Global, bits: u64, bytes: &[u8]) -> Result<Option<Key>, NoMemory>
+        ensures { IfOk result (λ made. SomeIff made (IsFilledUp bits bytes.now) (take bits (bits_of_bytes bytes.now))) }
     {
-        if !is_filled_up(bits, &bytes) {
-            return None;
+        if !is_filled_up(bits, bytes) {
+            return Ok(None);
         }
-        Some(Key { bits, bytes })
+        let bytes = SmallVec::from_slice(alloc, bytes)?;
+        Ok(Some(Key { bits, bytes }))
     }
 
     /// An equal key.
     pub fn copy(&self, alloc: Global) -> Result<Key, NoMemory>
         ensures { IfOk result (λ k. k ≡ self.now) }
     {
-        let bytes = Vec::from_slice(alloc, &self.bytes)?;
+        let bytes = SmallVec::from_slice(alloc, self.bytes.as_slice())?;
         Ok(Key {
             bits: self.bits,
             bytes,
@@ -134,7 +142,7 @@ impl Key {
         let width = u64::from(branch.width());
         let at = width * i;
         // A width divides eight, so a token lies in one byte.
-        let byte = self.bytes[(at / 8) as usize];
+        let byte = self.bytes.as_slice()[(at / 8) as usize];
         u16::from(byte >> (8 - width - at % 8)) % branch.factor()
     }
 
@@ -143,11 +151,12 @@ impl Key {
         ensures { result ≡ length (common_prefix self.now other.now) }
     {
         let most = self.bits.min(other.bits);
-        let equal = equal_bytes(&self.bytes, &other.bytes);
-        if equal >= self.bytes.len() || equal >= other.bytes.len() {
+        let (own, others) = (self.bytes.as_slice(), other.bytes.as_slice());
+        let equal = equal_bytes(own, others);
+        if equal >= own.len() || equal >= others.len() {
             return most;
         }
-        let differing = self.bytes[equal] ^ other.bytes[equal];
+        let differing = own[equal] ^ others[equal];
         most.min(8 * equal as u64 + u64::from(differing.leading_zeros()))
     }
 
@@ -179,11 +188,8 @@ impl Key {
     fn byte(&self, i: usize) -> u8
         ensures { result ≡ slice_index (packed self.now) i }
     {
-        if i < self.bytes.len() {
-            self.bytes[i]
-        } else {
-            0
-        }
+        let bytes = self.bytes.as_slice();
+        if i < bytes.len() { bytes[i] } else { 0 }
     }
 
     /// The key followed by a token.
@@ -199,8 +205,8 @@ impl Key {
         let used = self.bits % 8;
         // The token's bits in two bytes, behind those that the first of them holds.
         let placed = token << (16 - used - width);
-        let mut bytes = Vec::with_capacity(alloc, bits.div_ceil(8) as usize)?;
-        bytes.extend_from_slice(&self.bytes[..whole])?;
+        let mut bytes = SmallVec::with_capacity(alloc, bits.div_ceil(8) as usize)?;
+        bytes.extend_from_slice(&self.bytes.as_slice()[..whole])?;
         bytes.push(self.byte(whole) + (placed / 256) as u8)?;
         if used + width > 8 {
             bytes.push((placed % 256) as u8)?;
@@ -214,11 +220,11 @@ impl Key {
         ensures { IfOk result (λ k. k ≡ take bits self.now) }
     {
         let whole = (bits / 8) as usize;
-        let mut bytes = Vec::with_capacity(alloc, bits.div_ceil(8) as usize)?;
-        bytes.extend_from_slice(&self.bytes[..whole])?;
+        let mut bytes = SmallVec::with_capacity(alloc, bits.div_ceil(8) as usize)?;
+        bytes.extend_from_slice(&self.bytes.as_slice()[..whole])?;
         if bits % 8 > 0 {
             let unit = 1 << (8 - bits % 8);
-            bytes.push(self.bytes[whole] / unit * unit)?;
+            bytes.push(self.bytes.as_slice()[whole] / unit * unit)?;
         }
         Ok(Key { bits, bytes })
     }
@@ -241,7 +247,7 @@ impl Key {
     {
         let rest = self.bits - bits;
         let count = rest.div_ceil(8);
-        let mut bytes = Vec::with_capacity(alloc, count as usize)?;
+        let mut bytes = SmallVec::with_capacity(alloc, count as usize)?;
         for i in 0..count {
             bytes.push(self.window(bits + 8 * i))?;
         }

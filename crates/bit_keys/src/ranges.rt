@@ -102,7 +102,8 @@ impl Range {
 
     /// The start, where there is one.
     pub fn start(&self) -> Option<&[u8]>
-        ensures { option_copied result ≡ self.now.start }
+        ensures value { option_copied result ≡ self.now.start }
+        ensures range { IsRange limits self.now }
     {
         match &self.start {
             Some(key) => Some(key.bytes()),
@@ -112,7 +113,8 @@ impl Range {
 
     /// The end, where there is one.
     pub fn end(&self) -> Option<&[u8]>
-        ensures { option_copied result ≡ self.now.end }
+        ensures value { option_copied result ≡ self.now.end }
+        ensures range { IsRange limits self.now }
     {
         match &self.end {
             Some(key) => Some(key.bytes()),

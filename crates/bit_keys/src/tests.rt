@@ -142,7 +142,7 @@ fn slot(
     branch: Branch,
     token: u16,
 ) -> Result<Vec<u8>, NoMemory> {
-    let Some(key) = Key::from_parts(bits, Vec::from_slice(alloc, bytes)?) else {
+    let Some(key) = Key::from_parts(alloc, bits, bytes)? else {
         return Ok(Vec::new(alloc));
     };
     let longer = key.slot(alloc, branch, token % branch.factor())?;
@@ -151,7 +151,7 @@ fn slot(
 
 // Whether the parts make a key, which is then one with its own copy and has these bytes.
 fn makes_a_key(alloc: Global, bits: u64, bytes: &[u8]) -> Result<bool, NoMemory> {
-    match Key::from_parts(bits, Vec::from_slice(alloc, bytes)?) {
+    match Key::from_parts(alloc, bits, bytes)? {
         Some(key) => Ok(key.copy(alloc)? == key && key.bytes() == bytes),
         None => Ok(false),
     }

@@ -59,7 +59,7 @@ fn copy_key(alloc: Global, key: &Key) -> Result<Key, NoMemory>
 fn copies(alloc: Global, children: &[Child]) -> Result<Vec<Child>, NoMemory>
     ensures { IfOk result (λ made. made.items ≡ children.now) }
 {
-    let mut made = Vec::new(alloc);
+    let mut made = Vec::with_capacity(alloc, children.len())?;
     for child in children {
         made.push(child.copy(alloc)?)?;
     }

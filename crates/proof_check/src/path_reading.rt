@@ -122,8 +122,7 @@ fn key_of(alloc: Global, bytes: &[u8], at: usize, bits: u64) -> Result<(Key, usi
     ensures inside { IfOk result (λ x. x.1 ≤ length bytes.now) }
 {
     let (packed, next) = bytes_of(bytes, at, bits.div_ceil(8) as usize)?;
-    let packed = Vec::from_slice(alloc, packed)?;
-    match Key::from_parts(bits, packed) {
+    match Key::from_parts(alloc, bits, packed)? {
         Some(key) => Ok((key, next)),
         None => Err(WireKind::Padding.at(at)),
     }

@@ -1,17 +1,21 @@
-use Rattle.std.proofs.Common.{Ok, sym, ap, ◌∙◌, length}
+use Rattle.std.proofs.Common.{sym, ap, ◌∙◌, subst, take, SomeIff}
 use Rattle.base_model.specs.Fields.{bytes_at}
 use Rattle.trie_model.specs.StoredNode.{Short, Padding}
+use Rattle.trie_model.specs.Bits.{bits_of_bytes}
+use Rattle.bit_keys.specs.Keys.{IsFilledUp}
 use Rattle.node_codec.proofs.Rests.{bytes_needed, bits_found, bits_dirty}
 use Rattle.node_codec.proofs.reading.key_of.Goals as goal
 
 pub returns-in-Some-clause-exact : goal.returns-in-Some-clause-exact
 returns-in-Some-clause-exact c =
     let count = bytes_needed c.args.bits c.div_ceil.result c.div_ceil.ensures in
-    let read = ap (λ k. bytes_at Short k c.args.bytes.now c.args.at) (sym count) ∙ c.in_ok-packed.ensures.exact ∙ ap (λ p. Ok (p, c.in_ok-packed.next)) (sym c.in_ok-packed-2.ensures.items) in
-    bits_found Short Padding c.args.bits c.args.at c.in_ok-packed.next c.args.bytes.now c.in_ok-packed-2.packed.items c.in-Some.key read c.in-Some.ensures.0 c.in-Some.ensures.1
+    let read = ap (λ k. bytes_at Short k c.args.bytes.now c.args.at) (sym count) ∙ c.in_ok-packed.ensures.exact in
+    let key = subst (λ made. SomeIff made (IsFilledUp c.args.bits c.in_ok-packed.packed.now) (take c.args.bits (bits_of_bytes c.in_ok-packed.packed.now))) c.in-Some.is c.in_ok-key.ensures in
+    bits_found Short Padding c.args.bits c.args.at c.in_ok-packed.next c.args.bytes.now c.in_ok-packed.packed.now c.in-Some.key read key.0 key.1
 
 pub returns-in-None-clause-exact : goal.returns-in-None-clause-exact
 returns-in-None-clause-exact c =
     let count = bytes_needed c.args.bits c.div_ceil.result c.div_ceil.ensures in
-    let read = ap (λ k. bytes_at Short k c.args.bytes.now c.args.at) (sym count) ∙ c.in_ok-packed.ensures.exact ∙ ap (λ p. Ok (p, c.in_ok-packed.next)) (sym c.in_ok-packed-2.ensures.items) in
-    bits_dirty Short Padding c.args.bits c.args.at c.in_ok-packed.next c.args.bytes.now c.in_ok-packed-2.packed.items read (ap length c.in_ok-packed-2.ensures.items ∙ c.in_ok-packed.ensures.count ∙ count) c.in-None.ensures
+    let read = ap (λ k. bytes_at Short k c.args.bytes.now c.args.at) (sym count) ∙ c.in_ok-packed.ensures.exact in
+    let dirty = subst (λ made. SomeIff made (IsFilledUp c.args.bits c.in_ok-packed.packed.now) (take c.args.bits (bits_of_bytes c.in_ok-packed.packed.now))) c.in-None.is c.in_ok-key.ensures in
+    bits_dirty Short Padding c.args.bits c.args.at c.in_ok-packed.next c.args.bytes.now c.in_ok-packed.packed.now read (c.in_ok-packed.ensures.count ∙ count) dirty

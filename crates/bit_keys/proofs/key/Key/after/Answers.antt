@@ -14,7 +14,7 @@ pub loop-i-preserved : goal.loop-i-preserved
 loop-i-preserved c =
     let m = key_bits c.self.inside.bits c.self.inside.bytes.items c.args.self.now (c.self.view_is, c.self.invariant.0, c.self.invariant.1) in
     let n = next_byte c.args.bits c.loop-i.i c.window.result c.loop-i.bytes.items c.args.self.now (omega (arith, m)) c.loop-i.invariant c.window.ensures in
-    rw c.in_ok-push.ensures.items n
+    rw c.in_ok-push.ensures.ok n
 
 bytes_are : (c : goal.After-loop-i) → c.loop-i.bytes.items ≡ packed (drop c.args.bits c.args.self.now)
 bytes_are c = c.loop-i.invariant ∙ ap packed (all_bytes c.args.bits c.self.inside.bits c.loop-i.i (c.self.inside.bits - c.args.bits) c.args.self.now (key_bits c.self.inside.bits c.self.inside.bytes.items c.args.self.now (c.self.view_is, c.self.invariant.0, c.self.invariant.1)) refl (omega arith))

@@ -16,9 +16,9 @@ bytes_are : (c : goal.Joined-used-width-gt8) → c.if-used-width-gt8.bytes.items
 bytes_are c = slot_bytes c.self.inside.bits c.from-width.result (width_of c.args.branch) c.args.token c.byte.result c.self.inside.bytes.items c.extend_from_slice.new.self.items c.push.new.self.items c.if-used-width-gt8.bytes.items c.args.self.now
     (key_bits c.self.inside.bits c.self.inside.bytes.items c.args.self.now (c.self.view_is, c.self.invariant.0, c.self.invariant.1)) (c.from-width.ensures ∙ c.width.ensures) (width_pos c.args.branch) (width_small c.args.branch) (token_below c.args.branch c.args.token c.requires)
     (key_packed c.self.inside.bits c.self.inside.bytes.items c.args.self.now (c.self.view_is, c.self.invariant.0, c.self.invariant.1)) c.byte.ensures
-    (c.in_ok-extend_from_slice.ensures.items ∙ ap (λ xs. xs ++ take (c.self.inside.bits / 8) c.deref.result.now) c.in_ok-bytes.ensures.items ∙ ap (take (c.self.inside.bits / 8)) c.deref.ensures.value) c.in_ok-push.ensures.items
+    (c.in_ok-extend_from_slice.ensures.ok ∙ ap (λ xs. xs ++ take (c.self.inside.bits / 8) c.as_slice.result.now) c.in_ok-bytes.ensures.items ∙ ap (take (c.self.inside.bits / 8)) c.as_slice.ensures) c.in_ok-push.ensures.ok
     (elim c.if-used-width-gt8.branch [
-      | then-used-width-gt8+in_ok-push-2 w ↦ inr (w.if-used-width-gt8.true, ap (λ b. b.items) w.bytes-is ∙ w.in_ok-push-2.ensures.items)
+      | then-used-width-gt8+in_ok-push-2 w ↦ inr (w.if-used-width-gt8.true, ap (λ b. b.items) w.bytes-is ∙ w.in_ok-push-2.ensures.ok)
       | else-used-width-gt8 w ↦ inl (w.if-used-width-gt8.false, ap (λ b. b.items) w.bytes-is)
     ])
 

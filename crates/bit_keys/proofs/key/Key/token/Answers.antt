@@ -11,11 +11,11 @@ overflow_mul-at c = let t = begin_fits c.from-width.result (width_of c.args.bran
 pub returns : goal.returns
 returns c =
     let w : ℕ = width_of c.args.branch in
-    let x : ℕ = c.index-byte.result.now in
     let e : c.from-width.result ≡ w = c.from-width.ensures ∙ c.width.ensures in
     ap (λ y. y % c.factor.result) c.from.ensures
-    ∙ ap (λ f. x / 2 ^ (8 - c.from-width.result - c.from-width.result * c.args.i % 8) % f) (c.factor.ensures.value ∙ c.factor.ensures.power)
-    ∙ ap (λ v. x / 2 ^ (8 - v - v * c.args.i % 8) % 2 ^ w) e
-    ∙ token_is w (w * c.args.i) c.self.inside.bits x c.self.inside.bytes.items c.args.self.now c.self.view_is c.self.invariant.0
+    ∙ ap (λ f. get_or c.as_slice.result.now (c.from-width.result * c.args.i / 8) 0 / 2 ^ (8 - c.from-width.result - c.from-width.result * c.args.i % 8) % f) (c.factor.ensures.value ∙ c.factor.ensures.power)
+    ∙ ap (λ bs. get_or bs (c.from-width.result * c.args.i / 8) 0 / 2 ^ (8 - c.from-width.result - c.from-width.result * c.args.i % 8) % 2 ^ w) c.as_slice.ensures
+    ∙ ap (λ v. get_or c.self.inside.bytes.items (v * c.args.i / 8) 0 / 2 ^ (8 - v - v * c.args.i % 8) % 2 ^ w) e
+    ∙ token_is w (w * c.args.i) c.self.inside.bits c.self.inside.bytes.items c.args.self.now c.self.view_is c.self.invariant.0
     (λ i. subst (λ bs. get_or bs i 0 < 256) (sym c.self.invariant.1) (packed-small _ i)) (width_pos c.args.branch) (in_byte c.args.branch c.args.i)
-    (omega (arith, c.requires, ends_at w c.args.i)) (subst (λ v. x ≡ get_or c.self.inside.bytes.items (v * c.args.i / 8) x) e c.index-byte.ensures)
+    (omega (arith, c.requires, ends_at w c.args.i))
