@@ -5,6 +5,7 @@ use Rattle.std.specs.List.{AllByRecursion}
 use Rattle.std.specs.List.Sorted.{IsSearchInRange, IsBinarySearchResult, IsNonDecreasingBy}
 use Rattle.std.specs.Ordering.{is_eq, ordering_index, ordering_reverse}
 use Rattle.std.proofs.lemmas.Bool.{cases_lt}
+use Rattle.std.proofs.lemmas.List.{get_or_default}
 use Rattle.std.proofs.lemmas.List.Sorted.{IsNonDecreasingBy-from_default}
 use Rattle.trie_model.specs.Bits.{IsRising, key_cmp, same_key}
 use Rattle.trie_model.specs.Items.{Item, places}
@@ -75,6 +76,12 @@ row_of-at (r ∷ rs) zero k d h l e = ap (λ b. cond b (Some r.1) (row_of k rs))
 row_of-at (r ∷ rs) (suc i) k d h l e =
     let less : key_cmp r.0 k ≡ Less = subst (λ x. key_cmp r.0 x ≡ Less) e (above_at r.0 rs i d h.0 (omega arith)) in
     ap (λ b. cond b (Some r.1) (row_of k rs)) (other k r.0 Greater (turned r.0 k Less less) refl) ∙ row_of-at rs i k d h.1 (omega arith) e
+
+-- a row that stands at a place and has a key is what is found
+pub row_of-seen : (rs vs : List Row) (i : ℕ) (k : List Bool) (x y : Row) → IsRising (map row_key rs) → rs ≡ vs → i < length rs → x ≡ get_or rs i x → y ≡ get_or rs i y → true ≡ same_key x.0 k → row_of k vs ≡ Some y.1
+row_of-seen rs vs i k x y h e l p q s =
+    let key : (get_or rs i y).0 ≡ k = ap (λ (r : Row). r.0) (get_or_default rs i y x l ∙ sym p) ∙ same_key-is x.0 k (sym s) in
+    ap (row_of k) (sym e) ∙ row_of-at rs i k y h l key ∙ ap (λ (r : Row). Some r.1) (sym q)
 
 -- none is found where no key is the same
 row_of-none : (rs : List Row) (k : List Bool) → ((i : ℕ) → i < length rs → same_key k (get_or rs i no_row).0 ≡ false) → row_of k rs ≡ None

@@ -1,4 +1,4 @@
-ghost use Rattle.std.specs.Prelude.{◌≡◌, ◌+◌, ℕ, length, map, IfOk, OnOk, OnErr};
+ghost use Rattle.std.specs.Prelude.{◌≡◌, ◌+◌, ℕ, Some, length, map, IfOk, IfSome, OnOk, OnErr};
 ghost use Rattle.std.specs.Option.{option_copied};
 ghost use Rattle.trie_model.specs.Bits.{IsRising};
 ghost use Rattle.trie_model.specs.Ids.{id};
@@ -12,6 +12,7 @@ ghost use Rattle.map_root.specs.Hashes.{GrewAtMost};
 ghost use Rattle.trie_items.specs.Sources.{first_key, row_of};
 ghost use Rattle.node_table.specs.Rows.{row_key};
 
+use crate::places::Places;
 use bit_keys::{Id, Key};
 use map_root::Builder;
 use mdb_base::NoMemory;
@@ -25,6 +26,8 @@ use trie_items::Steps;
 #[derive(Drop)]
 pub struct NodeTable {
     rows: Vec<(Key, Node)>,
+    /// Asked before the rows are searched.
+    places: Places,
 }
 
 impl Model for NodeTable {
@@ -42,11 +45,15 @@ impl Model for NodeTable {
 
 impl NodeTable {
     /// A table of nodes with keys that rise, as those are that `Builder::finish` gives.
+    ///
+    /// It takes eight bytes a row for finding rows by their keys. Where there is no memory for them they are
+    /// found more slowly.
     pub fn new(rows: Vec<(Key, Node)>) -> NodeTable
         requires { IsRising (map row_key rows.items) }
         ensures { result ≡ rows.items }
     {
-        NodeTable { rows }
+        let places = Places::of_rows(*rows.allocator(), rows.as_slice());
+        NodeTable { rows, places }
     }
 
     /// The root and the table of what a builder was told. `steps` counts as in `Builder::finish`.
@@ -77,13 +84,36 @@ impl NodeTable {
         }
     }
 
-    /// The node at a key, where there is one.
-    pub fn node(&self, key: &Key) -> Option<&Node>
+    /// The node at a key, where the places name its row.
+    fn named(&self, key: &Key) -> Option<&Node>
+        ensures { IfSome result (λ node. row_of key.now self.now ≡ Some node.now) }
+    {
+        for place in self.places.of(key) {
+            let at = *place as usize;
+            if at < self.rows.len() && self.rows[at].0 == *key {
+                return Some(&self.rows[at].1);
+            }
+        }
+        None
+    }
+
+    /// The node at a key, where there is one, by a search of the rows.
+    fn searched(&self, key: &Key) -> Option<&Node>
         ensures { option_copied result ≡ row_of key.now self.now }
     {
         match self.rows.binary_search_by(|row| row.0.compare(key)) {
             Ok(at) => Some(&self.rows[at].1),
             Err(_) => None,
+        }
+    }
+
+    /// The node at a key, where there is one.
+    pub fn node(&self, key: &Key) -> Option<&Node>
+        ensures { option_copied result ≡ row_of key.now self.now }
+    {
+        match self.named(key) {
+            Some(node) => Some(node),
+            None => self.searched(key),
         }
     }
 }

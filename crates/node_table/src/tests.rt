@@ -1,6 +1,7 @@
 // A map of three keys in memory, looked up. The nodes are those of the worked table of `trie_model`.
 ghost use Rattle.std.specs.Prelude.{◌≡◌, ◌<◌};
 
+use crate::places::Places;
 use crate::{NodeTable, TableSource};
 use bit_keys::{Branch, Id, Key};
 use map_root::Builder;
@@ -88,6 +89,26 @@ fn pairs_out_of_order_make_no_source(rt: HostRuntime) -> Result<(), Fail> {
     assert!(rt; source_of(alloc, &long)?.is_none());
     let mut empty = source_of(alloc, &[])?.ok_or("no empty map")?;
     assert!(rt; empty.root_key(alloc)?.is_none());
+    Ok(())
+}
+
+#[test]
+fn each_row_is_named_by_the_hash_of_its_key(rt: HostRuntime) -> Result<(), Fail> {
+    let alloc = rt.alloc();
+    let mut rows = Vec::new(alloc);
+    for byte in 0..20 {
+        let children = Vec::new(alloc);
+        let node = Node {
+            digest: None,
+            children,
+        };
+        rows.push((Key::from_bytes(alloc, &[byte])?, node))?;
+    }
+    let places = Places::of_rows(alloc, rows.as_slice());
+    for byte in 0..20 {
+        let key = Key::from_bytes(alloc, &[byte])?;
+        assert!(rt; places.of(&key).contains(&u32::from(byte)), "row {byte}");
+    }
     Ok(())
 }
 

@@ -5,7 +5,7 @@ use Rattle.trie_model.specs.Table.{Row}
 use Rattle.trie_items.specs.Sources.{row_of}
 use Rattle.node_table.specs.Rows.{row_key}
 use Rattle.node_table.proofs.RowsByKey.{searched}
-use Rattle.node_table.proofs.table.NodeTable.node.Goals as goal
+use Rattle.node_table.proofs.table.NodeTable.searched.Goals as goal
 
 pub returns-in-Ok : goal.returns-in-Ok
 returns-in-Ok c =
