@@ -1,10 +1,12 @@
 -- Tokens of one key behind another key.
-use Rattle.std.proofs.Common.{◌≡◌, ℕ, ◌+◌, ◌*◌, ◌<◌, ◌≤◌, Bool, List, [], ◌++◌, length, take, drop, suc, sym, ap, ◌∙◌, arith, append_assoc, append-nil, length-drop, Result, Ok, Err, IfOk}
+use Rattle.std.proofs.Common.{◌≡◌, ℕ, ◌+◌, ◌*◌, ◌<◌, ◌≤◌, Bool, true, List, [], ◌++◌, length, take, drop, suc, sym, ap, ◌∙◌, arith, append_assoc, append-nil, length-drop, Result, Ok, Err, IfOk}
 use Rattle.std.proofs.lemmas.List.{length-take-le, take-append-drop, drop-drop}
 use Rattle.std.proofs.Math.ListN.{drop_of_length-le}
 use Rattle.std.proofs.Math.Nat.{mul-le-mul_left}
+use Rattle.std.proofs.Math.Seq.{take-add}
 use Rattle.base_model.proofs.Bits.{bits_of-number_of}
-use Rattle.trie_model.specs.Bits.{bits_of, number_of, token_at}
+use Rattle.trie_model.proofs.Prefixes.{length-is_prefix, take-is_prefix}
+use Rattle.trie_model.specs.Bits.{bits_of, is_prefix, number_of, token_at}
 
 -- one token more
 pub token_more : (w at next : ℕ) (key rest : List Bool) → next ≡ at + w → next ≤ length rest → (key ++ bits_of w (token_at w at rest)) ++ drop next rest ≡ key ++ drop at rest
@@ -25,3 +27,10 @@ all_tokens (Ok k) front mid rest n h p size q =
 -- a token in front of the end of others ends within them
 pub token_end : (w i to n : ℕ) → i < to → w * to ≤ n → w * i + w ≤ n
 token_end w i to n l h = omega (arith, mul-le-mul_left {m = suc i} {n = to} w (omega arith))
+
+-- what stands behind the first bits of a key ends within it, and is cut off it with them
+pub cut_off : (at n : ℕ) (k rest : List Bool) → at ≤ length k → n ≡ length rest → is_prefix rest (drop at k) ≡ true → (at + n ≤ length k) × (take (at + n) k ≡ take at k ++ rest)
+cut_off at n k rest l e p = (
+  omega (arith, l, e, length-is_prefix rest (drop at k) p, length-drop at k),
+  take-add at n k ∙ ap (λ r. take at k ++ r) (ap (λ n. take n (drop at k)) e ∙ take-is_prefix rest (drop at k) p),
+)

@@ -1,4 +1,5 @@
-ghost use Rattle.std.specs.Prelude.{◌≡◌, ◌+◌, ◌≤◌, ◌++◌, IfOk, length, take, map};
+ghost use Rattle.std.specs.Prelude.{◌≡◌, ◌+◌, ◌≤◌, ◌++◌, IfOk, length, take, drop, map};
+ghost use Rattle.trie_model.specs.Bits.{is_prefix};
 ghost use Rattle.trie_model.specs.Maps.{Map};
 ghost use Rattle.trie_model.specs.Table.{hashed_child, table};
 ghost use Rattle.node_codec.specs.Stored.{stored_children};
@@ -15,6 +16,33 @@ use proof_check::ProofNode;
 use std::alloc::Global;
 use trie_items::{ChildId, NodeSource, SourceFault};
 
+/// Whether these bits stand behind the first `bits` bits of `wanted`.
+fn stands_behind(alloc: Global, wanted: &Key, bits: u64, rest: &Key) -> Result<bool, NoMemory>
+    requires { bits ≤ length wanted.now }
+    ensures { IfOk result (λ stands. stands ≡ is_prefix rest.now (drop bits wanted.now)) }
+{
+    // Most children have no rest.
+    if rest.bits() == 0 {
+        return Ok(true);
+    }
+    let behind = wanted.after(alloc, bits)?;
+    Ok(rest.is_prefix(&behind))
+}
+
+/// The key of the child with this rest whose slot is the first `bits` bits of `wanted`.
+fn key_with_rest(alloc: Global, wanted: &Key, bits: u64, rest: &Key) -> Result<Key, NoMemory>
+    requires { bits ≤ length wanted.now }
+    ensures { IfOk result (λ k. k ≡ take bits wanted.now ++ rest.now) }
+{
+    // That the key has these bits says that their number fits.
+    let _total = wanted.bits();
+    if stands_behind(alloc, wanted, bits, rest)? {
+        // Such a key is cut off the wanted one, which takes less time than to put it together.
+        return wanted.first(alloc, bits + rest.bits());
+    }
+    joined(alloc, wanted.first(alloc, bits)?, rest)
+}
+
 /// The key of the child at a token whose slot is the first `bits` bits of `wanted`.
 fn key_of_child(
     alloc: Global,
@@ -28,8 +56,7 @@ fn key_of_child(
 {
     for child in children {
         if child.index == token {
-            let slot = wanted.first(alloc, bits)?;
-            return Ok(Some(joined(alloc, slot, &child.rest)?));
+            return Ok(Some(key_with_rest(alloc, wanted, bits, &child.rest)?));
         }
     }
     Ok(None)
