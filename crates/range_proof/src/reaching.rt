@@ -22,7 +22,6 @@ fn copied(alloc: Global, bound: Option<&[u8]>) -> Result<Option<Vec<u8>>, NoMemo
 
 /// The range up to a key of it.
 fn up_to(alloc: Global, range: &Range, last: &[u8]) -> Result<Range, NoMemory>
-    requires range { IsRange limits range.now }
     requires short { length last.now ≤ key_limit }
     requires inside { holds range.now last.now ≡ true }
     ensures bounds { IfOk result (λ r. r ≡ end_or (Some last.now) range.now) }
@@ -36,10 +35,11 @@ fn up_to(alloc: Global, range: &Range, last: &[u8]) -> Result<Range, NoMemory>
 /// The range up to the last pair, where pairs are cut. Where that pair lies outside there is none, as the
 /// pair is refused in any case.
 pub fn shorter(alloc: Global, asked: &Range, proof: &RangeProof) -> Result<Option<Range>, NoMemory>
-    requires range { IsRange limits asked.now }
-    requires keys { AllByRecursion (HasKey limits) proof.now.pairs }
+    requires { AllByRecursion (HasKey limits) proof.now.pairs }
     ensures { IfOk result (λ r. StandsFor asked.now proof.now (or_asked asked.now r)) }
 {
+    // That the bounds of a range are within the limit, and in order, is told with each of them.
+    let _start = asked.start();
     if !proof.cut {
         return Ok(None);
     }

@@ -1,7 +1,6 @@
 ghost use Rattle.std.specs.Prelude.{◌≡◌, ◌≤◌, ◌⊎◌, ℕ, false, [], length, IfErr, OnOk};
 ghost use Rattle.trie_model.specs.Maps.{Map, IsMap, limits, root as root_of};
 ghost use Rattle.trie_model.specs.Strings.{strings};
-ghost use Rattle.range_model.specs.Ranges.{IsRange};
 ghost use Rattle.bit_keys.specs.Branch.{width_of};
 ghost use Rattle.proof_model.specs.Claims.{claim_items};
 ghost use Rattle.proof_model.specs.RangeLaws.{IsRangeClaim, RangeBreak};
@@ -51,8 +50,7 @@ fn check_range<L: Ledger>(
     proof: &RangeProof,
     steps: &mut Steps<L>,
 ) -> Result<(), VerifyFault>
-    requires range { IsRange limits range.now }
-    requires claim { IsRangeClaim limits (width_of branch) proof.now }
+    requires { IsRangeClaim limits (width_of branch) proof.now }
     ensures refusal { Tells result (range_refusal (width_of branch) range.now root.now proof.now) }
     ensures cost { Costs result steps.old steps.new (length (strings (width_of branch) (claim_items (width_of branch) (range_claim range.now proof.now)))) }
 {
@@ -63,8 +61,8 @@ fn check_range<L: Ledger>(
 }
 
 /// Whether a proof shows what a map with this root has in a range, or the first reason why it does not.
-/// A proof that was decoded for the branch has such keys and nodes as are asked for, and what `Range::new`
-/// gives is such a range. No node is hashed twice, and no value is copied.
+/// A proof that was decoded for the branch has such keys and nodes as are asked for. No node is hashed
+/// twice, and no value is copied.
 pub fn verify<L: Ledger>(
     alloc: Global,
     branch: Branch,
@@ -73,8 +71,7 @@ pub fn verify<L: Ledger>(
     proof: &RangeProof,
     steps: &mut Steps<L>,
 ) -> Result<(), VerifyFault>
-    requires range { IsRange limits range.now }
-    requires claim { IsRangeClaim limits (width_of branch) proof.now }
+    requires { IsRangeClaim limits (width_of branch) proof.now }
     ensures refusal { Tells result (range_refusal (width_of branch) range.now root.now proof.now) }
     ensures cost { Costs result steps.old steps.new (length (strings (width_of branch) (claim_items (width_of branch) (range_claim range.now proof.now)))) }
 
@@ -88,5 +85,7 @@ pub fn verify<L: Ledger>(
     accepted_ranges_are_true();
     uncut_ranges_are_whole();
     true_ranges_are_accepted();
+    // That the bounds of a range are within the limit, and in order, is told with each of them.
+    let _start = range.start();
     check_range(alloc, branch, root, range, proof, steps)
 }

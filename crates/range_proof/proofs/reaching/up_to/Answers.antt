@@ -8,5 +8,5 @@ use Rattle.range_proof.proofs.reaching.up_to.Goals as goal
 pub unwrap-requires : goal.unwrap-requires
 unwrap-requires c =
     is_there c.new.result _ _ c.new.ensures
-    (up_to-bounds c.args.range.now c.args.last.now c.in_ok-end.end.items (option_map (λ b. b.items) c.in_ok-start.start) c.requires.range (are_bytes c.args.last.now (λ i. omega (arith, c.type_inv.last i)))
-    c.requires.short c.requires.inside (c.in_ok-start.ensures ∙ c.start.ensures) c.in_ok-end.ensures.items)
+    (up_to-bounds c.args.range.now c.args.last.now c.in_ok-end.end.items (option_map (λ b. b.items) c.in_ok-start.start) c.start.ensures.range (are_bytes c.args.last.now (λ i. omega (arith, c.type_inv.last i)))
+    c.requires.short c.requires.inside (c.in_ok-start.ensures ∙ c.start.ensures.value) c.in_ok-end.ensures.items)
