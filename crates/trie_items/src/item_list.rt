@@ -57,6 +57,15 @@ impl ItemList {
         }
     }
 
+    /// The list of items that are a valid one. None is moved.
+    pub fn from_items(branch: Branch, items: Vec<Item>) -> ItemList
+        requires { IsValid (width_of branch) (map item_of items.items) }
+        ensures width { result.width ≡ width_of branch }
+        ensures items { result.items ≡ map item_of items.items }
+    {
+        ItemList { branch, items }
+    }
+
     /// Puts an item behind those that are there. At an error the list is as it was.
     pub fn push(&mut self, item: Item) -> Result<(), ItemFault>
         requires { IsWholeItem self.old.width (item_of item) }

@@ -97,6 +97,18 @@ fn slot_bits(branch: Branch, tokens: u64, item: &Item) -> u64
     width * tokens + width
 }
 
+/// No child, and room for as many as these items can make.
+fn no_children(
+    alloc: Global,
+    branch: Branch,
+    below: &[Item],
+) -> Result<Vec<ChildId>, NoMemory>
+    ensures { IfOk result (λ v. v.items ≡ []) }
+{
+    let most = below.len().min(usize::from(branch.factor()));
+    Ok(Vec::with_capacity(alloc, most)?)
+}
+
 /// The ID of what lies in a slot of so many bits: of the stub there, or of the items below it.
 pub(crate) fn slot_root<L: Ledger>(
     alloc: Global,
@@ -115,8 +127,8 @@ pub(crate) fn slot_root<L: Ledger>(
     }
     let key = root_key(alloc, branch, items)?;
     let tokens = key.bits() / u64::from(branch.width());
-    let mut children = Vec::new(alloc);
     let mut rest = below_node(items, &key);
+    let mut children = no_children(alloc, branch, rest)?;
     while let [next, ..] = rest {
         let index = next.place().token(branch, tokens);
         let below = slot_bits(branch, tokens, next);

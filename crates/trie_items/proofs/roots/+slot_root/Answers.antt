@@ -16,7 +16,7 @@ loop-rest-init g t c =
     let w = width_of c.args.branch in
     let s = start item_of w c.args.items.now c.below_node-rest.result.now c.in_ok-key.key (width_pos c.args.branch) c.requires.valid c.requires.some c.in_ok-key.ensures c.below_node-rest.ensures in
     record {
-      children = ap (λ cs. children_of cs ++ children (id w) w (node_key w (map item_of c.args.items.now)) (map item_of c.below_node-rest.result.now)) c.new-children.ensures.items ∙ s.child;
+      children = ap (λ cs. children_of cs ++ children (id w) w (node_key w (map item_of c.args.items.now)) (map item_of c.below_node-rest.result.now)) c.in_ok-children.ensures ∙ s.child;
       cost = ap (λ x. c.args.steps.now + length x) s.hashed;
       hang = s.hang;
       valid = s.valid;
