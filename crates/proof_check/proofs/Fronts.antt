@@ -1,5 +1,6 @@
 -- What is left of two lists of items when the first of all is taken.
-use Rattle.std.proofs.Common.{◌≡◌, List, [], ◌∷◌, ◌++◌, length, map, drop, refl, sym, ap, ◌∙◌, subst, arith, Less, Equal, Greater, Option, Some, None}
+use Rattle.std.proofs.Common.{◌≡◌, ℕ, Bool, true, nat_eq, List, [], ◌∷◌, ◌++◌, length, map, drop, refl, sym, ap, ◌∙◌, subst, arith, Less, Equal, Greater, Option, Some, None}
+use Rattle.std.proofs.lemmas.Bool.Decides.{nat_tests}
 use Rattle.std.proofs.lemmas.List.{append-nil}
 use Rattle.std.specs.Option.{option_to_list, MatchOption}
 use Rattle.trie_model.specs.Bits.{IsRising}
@@ -65,6 +66,18 @@ both_taken None (x ∷ xs) ms (y ∷ ys) e d o a b = longer x xs ms e d
 both_taken (Some i) (x ∷ xs) ms (y ∷ ys) e d o a b =
     let P : List Listed → Type 0 = λ ls. fronts_cmp (map item_of ls) (map item_of (y ∷ ys)) ≡ Equal → Rises ls → both ls (y ∷ ys) ≡ item_of i ∷ both ms ys in
     subst P (sym e) (λ o a. merged_both (item_of i) (item_of y) (map item_of ms) (map item_of ys) a b o) o a
+
+-- ---- lists of no items
+pub is_none : (b : Bool) (n : ℕ) → b ≡ nat_eq n 0 → b ≡ true → n ≡ 0
+is_none b n e h = grind (arith, nat_tests)
+
+pub none_right : (ls rs : List Listed) → length rs ≡ 0 → Rises ls → map item_of ls ≡ both ls rs
+none_right ls [] e a = sym (ap in_order (append-nil (map item_of ls)) ∙ in_order-rising (map item_of ls) a)
+none_right ls (x ∷ rs) e a = absurd (omega (arith, e))
+
+pub none_left : (ls rs : List Listed) → length ls ≡ 0 → Rises rs → map item_of rs ≡ both ls rs
+none_left [] rs e a = sym (in_order-rising (map item_of rs) a)
+none_left (x ∷ ls) rs e a = absurd (omega (arith, e))
 
 -- ---- the whole run
 -- one item more was moved

@@ -1,9 +1,9 @@
 -- The items of a claim: its entries, and what both paths tell.
-use Rattle.std.proofs.Common.{◌≡◌, ℕ, List, [], ◌∷◌, ◌++◌, map, sym, ap, ◌∙◌, subst, append_assoc, Less}
+use Rattle.std.proofs.Common.{◌≡◌, ℕ, List, [], ◌∷◌, ◌++◌, map, sym, ap, ◌∙◌, subst, Less}
 use Rattle.std.specs.List.{AllByRecursion}
 use Rattle.base_model.specs.Bytes.{AreBytes, bytes_cmp}
 use Rattle.trie_model.specs.Bits.{bits_of_bytes, IsRising}
-use Rattle.trie_model.specs.Items.{Item, places, IsWholeItem, Follows, IsOrdered, IsValid}
+use Rattle.trie_model.specs.Items.{Item, places, IsValid}
 use Rattle.trie_model.specs.Maps.{limits, entry_item}
 use Rattle.trie_model.proofs.KeyOrder.{cmp-bytes}
 use Rattle.bit_keys.specs.declared.branch.Branch.{Branch}
@@ -29,21 +29,6 @@ All-back P (x ∷ xs) ys h = All-back P xs ys h.1
 pub All-append : {A : Type 0} (P : A → Type 0) (xs ys : List A) → AllByRecursion P xs → AllByRecursion P ys → AllByRecursion P (xs ++ ys)
 All-append P [] ys h k = k
 All-append P (x ∷ xs) ys h k = (h.0, All-append P xs ys h.1 k)
-
-ordered_front : (xs ys : List Item) → IsOrdered (xs ++ ys) → IsOrdered xs
-ordered_front [] ys h = tt
-ordered_front (x ∷ xs) ys h = (All-front (Follows x) xs ys h.0, ordered_front xs ys h.1)
-
--- the front of a valid list is one
-pub valid_front : (w : ℕ) (xs ys : List Item) → IsValid w (xs ++ ys) → IsValid w xs
-valid_front w xs ys v = record { whole = All-front (IsWholeItem w) xs ys v.whole; ordered = ordered_front xs ys v.ordered }
-
--- with the item that comes next
-pub next_valid : (w : ℕ) (all xs ys : List Item) (i : Item) → all ≡ xs ++ i ∷ ys → IsValid w all → IsValid w (xs ++ i ∷ [])
-next_valid w all xs ys i e v = valid_front w (xs ++ i ∷ []) ys (subst (IsValid w) (e ∙ sym (append_assoc xs (i ∷ []) ys)) v)
-
-pub next_whole : (w : ℕ) (all xs ys : List Item) (i : Item) → all ≡ xs ++ i ∷ ys → IsValid w all → IsWholeItem w i
-next_whole w all xs ys i e v = (All-back (IsWholeItem w) xs (i ∷ ys) (subst (AllByRecursion (IsWholeItem w)) e v.whole)).0
 
 -- ---- entries
 entries_above : (r : Range) (k : List ℕ) (es : List Pair) → AreBytes k → AllByRecursion (LiesIn r) es → AllByRecursion (λ (f : Pair). bytes_cmp k f.0 ≡ Less) es → AllAbove (bits_of_bytes k) (map entry_item es)

@@ -1,5 +1,6 @@
 -- Items in their order: what is made of two such lists, taken from their fronts.
-use Rattle.std.proofs.Common.{◌≡◌, Bool, true, false, List, [], ◌∷◌, ◌++◌, refl, sym, ap, ◌∙◌, subst, Ordering, Less, Equal, Greater}
+use Rattle.std.proofs.Common.{◌≡◌, Bool, true, false, List, [], ◌∷◌, ◌++◌, refl, sym, ap, ◌∙◌, subst, append_assoc, Ordering, Less, Equal, Greater}
+use Rattle.std.proofs.lemmas.List.{append-nil}
 use Rattle.std.specs.Cmp.{IsTotalOrder, bool_cmp_total}
 use Rattle.std.proofs.lemmas.Cmp.{lists_total}
 use Rattle.std.specs.Ordering.{ordering_reverse}
@@ -27,31 +28,51 @@ turned a b h = key_order.antisymm b a ∙ ap ordering_reverse h
 turned_back : (a b : List Bool) → key_cmp a b ≡ Greater → key_cmp b a ≡ Less
 turned_back a b h = key_order.antisymm b a ∙ ap ordering_reverse h
 
+-- what holds of the key or slot of each item
+abbrev pub AllPlaced : (List Bool → Type 0) → List Item → Type 0
+AllPlaced P is = AllByRecursion P (places is)
+
+pub AllPlaced-append : (P : List Bool → Type 0) (is js : List Item) → AllPlaced P is → AllPlaced P js → AllPlaced P (is ++ js)
+AllPlaced-append P [] js a b = b
+AllPlaced-append P (i ∷ is) js a b = (a.0, AllPlaced-append P is js a.1 b)
+
+AllPlaced-parts : (P : List Bool → Type 0) (is js : List Item) → AllPlaced P (is ++ js) → AllPlaced P is × AllPlaced P js
+AllPlaced-parts P [] js a = (tt, a)
+AllPlaced-parts P (i ∷ is) js a = let r = AllPlaced-parts P is js a.1 in ((a.0, r.0), r.1)
+
+pub AllPlaced-weaker : (P Q : List Bool → Type 0) (is : List Item) → ((l : List Bool) → P l → Q l) → AllPlaced P is → AllPlaced Q is
+AllPlaced-weaker P Q [] f a = tt
+AllPlaced-weaker P Q (i ∷ is) f a = (f (place_of i) a.0, AllPlaced-weaker P Q is f a.1)
+
 -- each of these stands behind a key
 abbrev pub AllAbove : List Bool → List Item → Type 0
-AllAbove k is = AllByRecursion (λ l. key_cmp k l ≡ Less) (places is)
+AllAbove k is = AllPlaced (λ l. key_cmp k l ≡ Less) is
 
 pub AllAbove-through : (k l : List Bool) (is : List Item) → key_cmp k l ≡ Less → AllAbove l is → AllAbove k is
-AllAbove-through k l [] h a = tt
-AllAbove-through k l (i ∷ is) h a = (below-through k l (place_of i) h a.0, AllAbove-through k l is h a.1)
+AllAbove-through k l is h a = AllPlaced-weaker (λ m. key_cmp l m ≡ Less) (λ m. key_cmp k m ≡ Less) is (λ m g. below-through k l m h g) a
 
 pub AllAbove-append : (k : List Bool) (is js : List Item) → AllAbove k is → AllAbove k js → AllAbove k (is ++ js)
-AllAbove-append k [] js a b = b
-AllAbove-append k (i ∷ is) js a b = (a.0, AllAbove-append k is js a.1 b)
+AllAbove-append k is js a b = AllPlaced-append (λ l. key_cmp k l ≡ Less) is js a b
 
 -- ---- one item more
-AllAbove-with : (k : List Bool) (i : Item) (is : List Item) → key_cmp k (place_of i) ≡ Less → AllAbove k is → AllAbove k (with_item i is)
-AllAbove-with k i [] h a = (h, tt)
-AllAbove-with k i (j ∷ js) h a = go (key_cmp (place_of i) (place_of j)) (AllAbove-with k i js h a.1)
+AllPlaced-with : (P : List Bool → Type 0) (i : Item) (is : List Item) → P (place_of i) → AllPlaced P is → AllPlaced P (with_item i is)
+AllPlaced-with P i [] h a = (h, tt)
+AllPlaced-with P i (j ∷ js) h a = go (key_cmp (place_of i) (place_of j)) (AllPlaced-with P i js h a.1)
   where
-    go : (o : Ordering) → AllAbove k (with_item i js) → AllAbove k (item_beside o i j js (with_item i js))
+    go : (o : Ordering) → AllPlaced P (with_item i js) → AllPlaced P (item_beside o i j js (with_item i js))
     go Less ih = (h, a)
     go Equal ih = (h, a.1)
     go Greater ih = (a.0, ih)
 
+AllPlaced-in_order : (P : List Bool → Type 0) (is : List Item) → AllPlaced P is → AllPlaced P (in_order is)
+AllPlaced-in_order P [] a = tt
+AllPlaced-in_order P (i ∷ is) a = AllPlaced-with P i (in_order is) a.0 (AllPlaced-in_order P is a.1)
+
+AllAbove-with : (k : List Bool) (i : Item) (is : List Item) → key_cmp k (place_of i) ≡ Less → AllAbove k is → AllAbove k (with_item i is)
+AllAbove-with k i is h a = AllPlaced-with (λ l. key_cmp k l ≡ Less) i is h a
+
 AllAbove-in_order : (k : List Bool) (is : List Item) → AllAbove k is → AllAbove k (in_order is)
-AllAbove-in_order k [] a = tt
-AllAbove-in_order k (i ∷ is) a = AllAbove-with k i (in_order is) a.0 (AllAbove-in_order k is a.1)
+AllAbove-in_order k is a = AllPlaced-in_order (λ l. key_cmp k l ≡ Less) is a
 
 -- an item in front of all others
 with_item-front : (i : Item) (is : List Item) → AllAbove (place_of i) is → with_item i is ≡ i ∷ is
@@ -180,3 +201,49 @@ in_order-back (i ∷ is) js = ap (with_item i) (in_order-back is js)
 -- two lists may be put in order before they are merged
 pub in_order-parts : (is js : List Item) → in_order (in_order is ++ in_order js) ≡ in_order (is ++ js)
 in_order-parts is js = in_order-front is (in_order js) ∙ in_order-back is js
+
+-- ---- parts that stand apart
+-- each of the first items stands in front of each of the others
+abbrev pub Apart : List Item → List Item → Type 0
+Apart is js = AllPlaced (λ l. AllAbove l js) is
+
+Apart-append : (is js ls : List Item) → Apart is js → Apart is ls → Apart is (js ++ ls)
+Apart-append [] js ls a b = tt
+Apart-append (i ∷ is) js ls a b = (AllAbove-append (place_of i) js ls a.0 b.0, Apart-append is js ls a.1 b.1)
+
+-- in front of one of the others, and of the rest of them
+Apart-parts : (is js : List Item) (j : Item) → Apart is (j ∷ js) → AllPlaced (λ l. key_cmp l (place_of j) ≡ Less) is × Apart is js
+Apart-parts [] js j a = (tt, tt)
+Apart-parts (i ∷ is) js j a = let r = Apart-parts is js j a.1 in ((a.0.0, r.0), (a.0.1, r.1))
+
+rising_parts : (is js : List Item) → IsRising (places (is ++ js)) → IsRising (places is) × IsRising (places js) × Apart is js
+rising_parts [] js h = (tt, h, tt)
+rising_parts (i ∷ is) js h =
+    let r = rising_parts is js h.1 in
+    let p = AllPlaced-parts (λ l. key_cmp (place_of i) l ≡ Less) is js h.0 in
+    ((p.0, r.0), r.1, (p.1, r.2))
+
+-- items in front of all others
+first_apart : (is js : List Item) → IsRising (places is) → Apart is js → in_order (is ++ js) ≡ is ++ in_order js
+first_apart [] js h a = refl
+first_apart (i ∷ is) js h a =
+    ap (with_item i) (first_apart is js h.1 a.1) ∙ with_item-front i (is ++ in_order js) (AllAbove-append (place_of i) is (in_order js) h.0 (AllAbove-in_order (place_of i) js a.0))
+
+-- an item between others
+with_item-between : (i : Item) (is js : List Item) → AllPlaced (λ l. key_cmp l (place_of i) ≡ Less) is → AllAbove (place_of i) js → with_item i (is ++ js) ≡ is ++ i ∷ js
+with_item-between i [] js a b = with_item-front i js b
+with_item-between i (l ∷ ls) js a b =
+    ap (λ o. item_beside o i l (ls ++ js) (with_item i (ls ++ js))) (turned (place_of l) (place_of i) a.0) ∙ ap (λ r. l ∷ r) (with_item-between i ls js a.1 b)
+
+-- items that are listed in front of others, and stand behind all of them
+last_apart : (is js : List Item) → IsRising (places is) → Apart js is → in_order (is ++ js) ≡ in_order js ++ is
+last_apart [] js h a = sym (append-nil (in_order js))
+last_apart (i ∷ is) js h a =
+    let p = Apart-parts js is i a in
+    ap (with_item i) (last_apart is js h.1 p.1) ∙ with_item-between i (in_order js) is (AllPlaced-in_order (λ l. key_cmp l (place_of i) ≡ Less) js p.0) h.0
+
+-- items that rise, and others that stand behind the first of them and in front of the rest
+pub in_order-amid : (is js ls : List Item) → IsRising (places (is ++ js)) → Apart is ls → Apart ls js → in_order ((is ++ js) ++ ls) ≡ is ++ (in_order ls ++ js)
+in_order-amid is js ls h a b =
+    let p = rising_parts is js h in
+    ap in_order (append_assoc is js ls) ∙ first_apart is (js ++ ls) p.0 (Apart-append is js ls p.2 a) ∙ ap (λ r. is ++ r) (last_apart js ls p.1 b)

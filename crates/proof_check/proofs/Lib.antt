@@ -4,6 +4,7 @@ pub mod PathOrders
 pub mod ToldBeside
 pub mod EntryTests
 pub mod Gathered
+pub mod Descents
 pub mod Telling
 pub mod Lists
 pub mod Steps

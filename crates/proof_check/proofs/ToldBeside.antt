@@ -78,7 +78,7 @@ width_positive B256 = omega arith
 
 -- ---- the order of what one node tells
 -- a stub, if there is one, has its slot
-stub_above : (l s : List Bool) (r : Range) (ns : List ProofNode) (x : List ℕ) → key_cmp l s ≡ Less → AllAbove l (stub_beside r ns s x)
+pub stub_above : (l s : List Bool) (r : Range) (ns : List ProofNode) (x : List ℕ) → key_cmp l s ≡ Less → AllAbove l (stub_beside r ns s x)
 stub_above l s r ns x h = go (is_outside (slot_place r s)) (leads_to s ns)
   where
     go : (t u : Bool) → AllAbove l (if t then (if u then [] else Stub s x ∷ []) else [])
@@ -122,9 +122,8 @@ key_below w c k (d ∷ ds) pos =
         above_prefix k (k ++ bits_of w d.0) (is_prefix-append k k (bits_of w d.0) (is_prefix-itself k)) (omega (arith, l, m, pos))
 
 -- what one node tells rises
-pub node_rises : (w : ℕ) (c : Claim) (n : ProofNode) → 0 < w → IsProofNode w n → IsRising (places (told_of w c (n ∷ [])))
-node_rises w c n pos h =
-    subst (λ is. IsRising (places is)) (sym (append-nil (value_beside c.reached n ++ stubs_of w c n.key n.children))) (go (is_inside (key_place c.reached n.key)) n.digest)
+pub one_rises : (w : ℕ) (c : Claim) (n : ProofNode) → 0 < w → IsProofNode w n → IsRising (places (value_beside c.reached n ++ stubs_of w c n.key n.children))
+one_rises w c n pos h = go (is_inside (key_place c.reached n.key)) n.digest
   where
     go : (t : Bool) (d : Option (List ℕ)) → IsRising (places ((if t then [] else shown_value n.key d) ++ stubs_of w c n.key n.children))
     go true d = slots_rise w 0 c n.key n.children h.children h.rising
@@ -132,21 +131,11 @@ node_rises w c n pos h =
     go false (Some d) = (key_below w c n.key n.children pos, slots_rise w 0 c n.key n.children h.children h.rising)
 
 -- ---- lists of nodes
--- one node alone
-pub one_told : (w : ℕ) (c : Claim) (n : ProofNode) (is : List Item) → 0 < w → IsProofNode w n → is ≡ told_of w c (n ∷ []) → is ≡ in_order (told_of w c (n ∷ []))
-one_told w c n is pos h e = e ∙ sym (in_order-rising (told_of w c (n ∷ [])) (node_rises w c n pos h))
-
 pub told_of-append : (w : ℕ) (c : Claim) (xs ys : List ProofNode) → told_of w c (xs ++ ys) ≡ told_of w c xs ++ told_of w c ys
 told_of-append w c [] ys = refl
 told_of-append w c (x ∷ xs) ys =
     let front = value_beside c.reached x ++ stubs_of w c x.key x.children in
     ap (λ r. front ++ r) (told_of-append w c xs ys) ∙ sym (append_assoc front (told_of w c xs) (told_of w c ys))
-
--- nodes in two parts
-pub two_told : (w : ℕ) (c : Claim) (all xs ys : List ProofNode) (is js ls : List Item) → xs ++ ys ≡ all → is ≡ in_order (told_of w c xs) → js ≡ in_order (told_of w c ys) → ls ≡ in_order (is ++ js) → ls ≡ in_order (told_of w c all)
-two_told w c all xs ys is js ls e f g h =
-    h ∙ ap (λ r. in_order (r ++ js)) f ∙ ap (λ r. in_order (in_order (told_of w c xs) ++ r)) g ∙ in_order-parts (told_of w c xs) (told_of w c ys)
-    ∙ ap in_order (sym (told_of-append w c xs ys)) ∙ ap (λ ns. in_order (told_of w c ns)) e
 
 -- ---- tests in a row
 pub shown_first : (r a b c : Bool) → r ≡ a → r ≡ true → c ≡ (a || b) → r ≡ c
@@ -158,13 +147,3 @@ shown_second r s a b c e h g f = g ∙ sym (f ∙ ap (λ a. a || b) (sym e ∙ h
 -- what is in order rises
 pub rises_made : (is all : List Item) → is ≡ in_order all → IsRising (places is)
 rises_made is all e = subst (λ is. IsRising (places is)) (sym e) (rises-in_order all)
-
--- a list of one node
-pub single_told : (w : ℕ) (c : Claim) (ns : List ProofNode) (n : ProofNode) (is : List Item) → 0 < w → AllByRecursion (IsProofNode w) ns → length ns ≡ 1 → n ≡ get_or ns 0 n → is ≡ told_of w c (n ∷ []) → is ≡ in_order (told_of w c ns)
-single_told w c [] n is pos h l e f = absurd (omega arith)
-single_told w c (m ∷ []) n is pos h l e f = one_told w c m is pos h.0 (f ∙ ap (λ n. told_of w c (n ∷ [])) e)
-single_told w c (m ∷ k ∷ ns) n is pos h l e f = absurd (omega arith)
-
--- both parts of a list are all of it
-pub both_parts : {A : Type 0} (mid : ℕ) (all xs ys : List A) → xs ≡ take mid all → ys ≡ drop mid all → xs ++ ys ≡ all
-both_parts mid all xs ys e f = ap (λ xs. xs ++ ys) e ∙ ap (λ ys. take mid all ++ ys) f ∙ take-append-drop mid all

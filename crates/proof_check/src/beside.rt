@@ -1,6 +1,6 @@
 ghost use Rattle.std.specs.Prelude.{◌≡◌, ◌<◌, ◌++◌, ◌∷◌, [], map, IfOk, OnOk, None};
 ghost use Rattle.std.specs.Option.{option_to_list};
-ghost use Rattle.std.specs.List.{AllByRecursion};
+ghost use Rattle.std.specs.List.{AllByRecursion, prefix_len};
 ghost use Rattle.trie_model.specs.Bits.{bits_of};
 ghost use Rattle.range_model.specs.Ranges.{is_inside as lies_inside, is_outside as lies_outside};
 ghost use Rattle.bit_keys.specs.Branch.{width_of, factor_of};
@@ -11,9 +11,9 @@ ghost use Rattle.proof_model.specs.Paths.{IsChild, IsProofNode};
 ghost use Rattle.proof_model.specs.Claims.{nodes, leads_to as leads_to_node, value_beside as value_shown, stub_beside as stub_shown, in_order};
 ghost use Rattle.proof_model.specs.Refusals.{extends, first_break};
 ghost use Rattle.proof_check.specs.Claims.{claim_of, stubs_of, told_of, AreUnbroken};
+ghost use Rattle.proof_check.specs.Descents.{IsPathOf, is_in_front, in_front as count_in_front, told_ahead, told_behind, told_down, told_up};
 
 use crate::claim::Claim;
-use crate::merging::merge;
 use crate::proof_node::ProofNode;
 use bit_keys::{Branch, Key, NoMemory, Place, Range, key_place, place};
 use std::alloc::Global;
@@ -117,49 +117,126 @@ fn push_stubs(
     Ok(())
 }
 
-/// What one node tells beside the range.
-fn node_items(
+/// How many children have an index below this one.
+fn count_below(children: &[ChildId], index: u16) -> usize
+    ensures { result ≡ prefix_len (is_in_front index) (children_of children.now) }
+{
+    let mut count = 0;
+    while count < children.len() && children[count].index < index {
+        count += 1;
+    }
+    count
+}
+
+/// How many children of a node come in front of the way to the nodes behind it in its path. Where there
+/// are none, all do.
+fn in_front(branch: Branch, node: &ProofNode, deeper: &[ProofNode]) -> usize
+    requires whole { AllByRecursion (IsProofNode (width_of branch)) (node.now ∷ deeper.now) }
+    requires unbroken { first_break extends 0 (node.now ∷ deeper.now) ≡ None }
+    ensures { result ≡ count_in_front (width_of branch) node.now deeper.now }
+{
+    match deeper {
+        [] => node.children.len(),
+        [next, ..] => {
+            let tokens = node.key.bits() / u64::from(branch.width());
+            count_below(node.children.as_slice(), next.key.token(branch, tokens))
+        }
+    }
+}
+
+/// Adds what a node tells in front of the nodes behind it in its path.
+fn push_ahead(
     alloc: Global,
     branch: Branch,
     claim: &Claim,
     node: &ProofNode,
-) -> Result<VecDeque<Item>, NoMemory>
-    requires node { IsProofNode (width_of branch) node.now }
+    deeper: &[ProofNode],
+    told: &mut VecDeque<Item>,
+) -> Result<(), NoMemory>
+    requires path { IsPathOf (width_of branch) (claim_of claim.now) (node.now ∷ deeper.now) }
     requires unbroken { AreUnbroken (claim_of claim.now) }
-    ensures { IfOk result (λ q. map item_of q.items ≡ told_of (width_of branch) (claim_of claim.now) (node.now ∷ [])) }
+    ensures { OnOk result (map item_of told.new.items ≡ map item_of told.old.items ++ told_ahead (width_of branch) (claim_of claim.now) node.now deeper.now) }
 {
-    let mut told = VecDeque::new(alloc);
-    push_some(&mut told, value_beside(alloc, claim.reached, node)?)?;
-    push_stubs(
-        alloc,
-        branch,
-        claim,
-        &node.key,
-        node.children.as_slice(),
-        &mut told,
-    )?;
-    Ok(told)
+    push_some(told, value_beside(alloc, claim.reached, node)?)?;
+    let (front, _) = node
+        .children
+        .as_slice()
+        .split_at(in_front(branch, node, deeper));
+    push_stubs(alloc, branch, claim, &node.key, front, told)
 }
 
-/// What nodes tell beside the range, in the order of the keys.
+/// Adds what a node tells behind them.
+fn push_behind(
+    alloc: Global,
+    branch: Branch,
+    claim: &Claim,
+    node: &ProofNode,
+    deeper: &[ProofNode],
+    told: &mut VecDeque<Item>,
+) -> Result<(), NoMemory>
+    requires path { IsPathOf (width_of branch) (claim_of claim.now) (node.now ∷ deeper.now) }
+    requires unbroken { AreUnbroken (claim_of claim.now) }
+    ensures { OnOk result (map item_of told.new.items ≡ map item_of told.old.items ++ told_behind (width_of branch) (claim_of claim.now) node.now deeper.now) }
+{
+    let (_, back) = node
+        .children
+        .as_slice()
+        .split_at(in_front(branch, node, deeper));
+    push_stubs(alloc, branch, claim, &node.key, back, told)
+}
+
+/// Adds what each node tells in front of those behind it, from the first node on.
+fn push_down(
+    alloc: Global,
+    branch: Branch,
+    claim: &Claim,
+    path: &[ProofNode],
+    told: &mut VecDeque<Item>,
+) -> Result<(), NoMemory>
+    requires path { IsPathOf (width_of branch) (claim_of claim.now) path.now }
+    requires unbroken { AreUnbroken (claim_of claim.now) }
+    ensures { OnOk result (map item_of told.new.items ≡ map item_of told.old.items ++ told_down (width_of branch) (claim_of claim.now) path.now) }
+{
+    for i in 0..path.len() {
+        push_ahead(alloc, branch, claim, &path[i], &path[i + 1..], told)?;
+    }
+    Ok(())
+}
+
+/// Adds what each node tells behind them, from the last node back.
+fn push_up(
+    alloc: Global,
+    branch: Branch,
+    claim: &Claim,
+    path: &[ProofNode],
+    told: &mut VecDeque<Item>,
+) -> Result<(), NoMemory>
+    requires path { IsPathOf (width_of branch) (claim_of claim.now) path.now }
+    requires unbroken { AreUnbroken (claim_of claim.now) }
+    ensures { OnOk result (map item_of told.new.items ≡ map item_of told.old.items ++ told_up (width_of branch) (claim_of claim.now) path.now) }
+{
+    let mut left = path.len();
+    while left > 0 {
+        left -= 1;
+        push_behind(alloc, branch, claim, &path[left], &path[left + 1..], told)?;
+    }
+    Ok(())
+}
+
+/// What the nodes of a path tell beside the range, in the order of the keys. All that a node's deeper
+/// nodes tell lies in one of its slots, so the way down and back up passes everything in order.
 pub(crate) fn told_beside(
     alloc: Global,
     branch: Branch,
     claim: &Claim,
-    shown: &[ProofNode],
+    path: &[ProofNode],
 ) -> Result<VecDeque<Item>, NoMemory>
-    requires shown { AllByRecursion (IsProofNode (width_of branch)) shown.now }
+    requires path { IsPathOf (width_of branch) (claim_of claim.now) path.now }
     requires unbroken { AreUnbroken (claim_of claim.now) }
-    ensures { IfOk result (λ q. map item_of q.items ≡ in_order (told_of (width_of branch) (claim_of claim.now) shown.now)) }
+    ensures { IfOk result (λ q. map item_of q.items ≡ in_order (told_of (width_of branch) (claim_of claim.now) path.now)) }
 {
-    match shown {
-        [] => Ok(VecDeque::new(alloc)),
-        [node] => node_items(alloc, branch, claim, node),
-        _ => {
-            let (front, back) = shown.split_at(shown.len() / 2);
-            let left = told_beside(alloc, branch, claim, front)?;
-            let right = told_beside(alloc, branch, claim, back)?;
-            merge(alloc, left, right)
-        }
-    }
+    let mut told = VecDeque::new(alloc);
+    push_down(alloc, branch, claim, path, &mut told)?;
+    push_up(alloc, branch, claim, path, &mut told)?;
+    Ok(told)
 }

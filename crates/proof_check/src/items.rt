@@ -1,5 +1,4 @@
 ghost use Rattle.std.specs.Prelude.{◌≡◌, map, IfOk, None};
-ghost use Rattle.trie_model.specs.Items.{IsValid};
 ghost use Rattle.trie_model.specs.Maps.{limits, entry_item as item_of_pair};
 ghost use Rattle.bit_keys.specs.Branch.{width_of};
 ghost use Rattle.trie_items.specs.Items.{item_of};
@@ -18,7 +17,7 @@ use bit_keys::{Branch, Key, NoMemory};
 use proof_model::claim_items_are_valid;
 use std::alloc::Global;
 use std::collections::VecDeque;
-use trie_items::{Item, ItemFault, ItemList, value_digest};
+use trie_items::{Item, ItemList, value_digest};
 
 fn entry_item(alloc: Global, entry: &Entry) -> Result<Item, NoMemory>
     ensures { IfOk result (λ i. item_of i ≡ item_of_pair (pair_of entry.now)) }
@@ -53,24 +52,6 @@ fn gather(alloc: Global, branch: Branch, claim: &Claim) -> Result<VecDeque<Item>
     merge(alloc, listed, beside)
 }
 
-/// A list of items that are a valid one.
-fn list_of(alloc: Global, branch: Branch, items: VecDeque<Item>) -> Result<ItemList, NoMemory>
-    requires { IsValid (width_of branch) (map item_of items.items) }
-    ensures width { IfOk result (λ s. s.width ≡ width_of branch) }
-    ensures items { IfOk result (λ s. s.items ≡ map item_of items.items) }
-{
-    let mut rest = items;
-    let mut list = ItemList::new(alloc, branch);
-    while let Some(item) = rest.pop_front() {
-        match list.push(item) {
-            Ok(()) => {}
-            Err(ItemFault::Order) => unreachable!(),
-            Err(ItemFault::NoMemory) => return Err(NoMemory),
-        }
-    }
-    Ok(list)
-}
-
 /// The items of a claim. It tells of the paths alone why they are refused.
 pub fn items_of(alloc: Global, branch: Branch, claim: &Claim) -> Result<ItemList, VerifyFault>
     requires { IsClaim limits (width_of branch) (claim_of claim.now) }
@@ -81,5 +62,5 @@ pub fn items_of(alloc: Global, branch: Branch, claim: &Claim) -> Result<ItemList
     claim_items_are_valid();
     check_paths(claim.start, claim.end)?;
     let items = gather(alloc, branch, claim)?;
-    Ok(list_of(alloc, branch, items)?)
+    Ok(ItemList::from_items(branch, items.into_vec()))
 }

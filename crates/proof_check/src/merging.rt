@@ -69,6 +69,12 @@ pub(crate) fn merge(
     requires right { IsRising (places (map item_of right.items)) }
     ensures { IfOk result (λ q. map item_of q.items ≡ in_order (map item_of left.items ++ map item_of right.items)) }
 {
+    if right.is_empty() {
+        return Ok(left);
+    }
+    if left.is_empty() {
+        return Ok(right);
+    }
     let mut left = left;
     let mut right = right;
     let mut merged = VecDeque::new(alloc);

@@ -3,18 +3,18 @@ use Rattle.trie_model.specs.Bits.{IsRising}
 use Rattle.trie_model.specs.Items.{places}
 use Rattle.bit_keys.specs.Branch.{width_of}
 use Rattle.trie_items.specs.Items.{item_of}
-use Rattle.proof_model.specs.Paths.{IsProofNode}
 use Rattle.proof_check.specs.Claims.{claim_of, pair_of, told_of}
 use Rattle.std.proofs.lemmas.Result.{IfOk-weaker}
 use Rattle.proof_check.proofs.ToldBeside.{rises_made}
-use Rattle.proof_check.proofs.Gathered.{All-front, All-back, entries_rise, gathered}
+use Rattle.proof_check.proofs.Descents.{start_path, end_path}
+use Rattle.proof_check.proofs.Gathered.{entries_rise, gathered}
 use Rattle.proof_check.proofs.items.gather.Goals as goal
 
-pub told_beside-requires-clause-shown : goal.told_beside-requires-clause-shown
-told_beside-requires-clause-shown c = All-front (IsProofNode (width_of c.args.branch)) c.args.claim.now.start.now c.args.claim.now.end.now c.requires.claim.shown
+pub told_beside-requires-clause-path : goal.told_beside-requires-clause-path
+told_beside-requires-clause-path c = start_path (width_of c.args.branch) (claim_of c.args.claim.now) c.requires.claim.shown c.requires.unbroken.start
 
-pub told_beside-requires-2-clause-shown : goal.told_beside-requires-2-clause-shown
-told_beside-requires-2-clause-shown c = All-back (IsProofNode (width_of c.args.branch)) c.args.claim.now.start.now c.args.claim.now.end.now c.requires.claim.shown
+pub told_beside-requires-2-clause-path : goal.told_beside-requires-2-clause-path
+told_beside-requires-2-clause-path c = end_path (width_of c.args.branch) (claim_of c.args.claim.now) c.requires.claim.shown c.requires.unbroken.end
 
 pub merge-requires-clause-left : goal.merge-requires-clause-left
 merge-requires-clause-left c = rises_made (map item_of c.in_ok-start.start.items) (told_of (width_of c.args.branch) (claim_of c.args.claim.now) c.args.claim.now.start.now) c.in_ok-start.ensures

@@ -1,4 +1,4 @@
-use Rattle.std.proofs.Common.{map}
+use Rattle.std.proofs.Common.{map, ap, ◌∙◌}
 use Rattle.trie_items.specs.Items.{item_of}
 use Rattle.proof_check.specs.Claims.{claim_of}
 use Rattle.proof_check.proofs.Gathered.{claim_valid}
@@ -8,5 +8,6 @@ use Rattle.proof_check.proofs.items.items_of.Goals as goal
 pub gather-requires-clause-unbroken : goal.gather-requires-clause-unbroken
 gather-requires-clause-unbroken c = paths_unbroken c.args.claim.now c.in_ok-check_paths.ensures
 
-pub list_of-requires : goal.list_of-requires
-list_of-requires c = claim_valid c.claim_items_are_valid.ensures c.args.branch (claim_of c.args.claim.now) (map item_of c.in_ok-items.items.items) c.requires c.in_ok-items.ensures
+pub from_items-requires : goal.from_items-requires
+from_items-requires c =
+    claim_valid c.claim_items_are_valid.ensures c.args.branch (claim_of c.args.claim.now) (map item_of c.into_vec.result.items) c.requires (ap (map item_of) c.into_vec.ensures.items ∙ c.in_ok-items.ensures)
