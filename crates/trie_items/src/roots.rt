@@ -98,11 +98,7 @@ fn slot_bits(branch: Branch, tokens: u64, item: &Item) -> u64
 }
 
 /// No child, and room for as many as these items can make.
-fn no_children(
-    alloc: Global,
-    branch: Branch,
-    below: &[Item],
-) -> Result<Vec<ChildId>, NoMemory>
+fn no_children(alloc: Global, branch: Branch, below: &[Item]) -> Result<Vec<ChildId>, NoMemory>
     ensures { IfOk result (λ v. v.items ≡ []) }
 {
     let most = below.len().min(usize::from(branch.factor()));
