@@ -11,7 +11,7 @@ use Rattle.std.proofs.lemmas.List.Sums.{prefix_len-le-length}
 use Rattle.std.proofs.Math.Seq.{drop-cons, take-length}
 use Rattle.base_model.proofs.Bits.{length-bits_of}
 use Rattle.trie_model.specs.Bits.{bits_of, is_prefix, key_cmp, IsRising, token_at}
-use Rattle.trie_model.specs.Items.{Item, Stub, place_of, places}
+use Rattle.trie_model.specs.Items.{Item, Stub, places}
 use Rattle.trie_model.proofs.Children.{is_prefix-tok}
 use Rattle.trie_model.proofs.NodeKeys.{above_prefix, by_token}
 use Rattle.trie_model.proofs.Prefixes.{is_prefix-itself, is_prefix-through, is_prefix-append, length-is_prefix, branches, whole_step}
@@ -97,7 +97,7 @@ Ahead t d = d.0 < t
 abbrev NotAhead : ℕ → ℕ × List ℕ → Type 0
 NotAhead t d = t ≤ d.0
 
-one_more : (n : ℕ) → suc n ≡ 1 + n
+pub one_more : (n : ℕ) → suc n ≡ 1 + n
 one_more n = omega arith
 
 ahead_all : (t : ℕ) (ds : List (ℕ × List ℕ)) → AllByRecursion (Ahead t) (take (prefix_len (is_in_front t) ds) ds)

@@ -15,7 +15,7 @@ key_order : IsTotalOrder key_cmp
 key_order = lists_total bool_cmp_total
 
 -- keys that tie are one
-tied : (a b : List Bool) → key_cmp a b ≡ Equal → a ≡ b
+pub tied : (a b : List Bool) → key_cmp a b ≡ Equal → a ≡ b
 tied [] [] h = refl
 tied (true ∷ a) (true ∷ b) h = ap (λ r. true ∷ r) (tied a b h)
 tied (false ∷ a) (false ∷ b) h = ap (λ r. false ∷ r) (tied a b h)
@@ -25,7 +25,7 @@ tied a b h = absurd (cc)
 turned : (a b : List Bool) → key_cmp a b ≡ Less → key_cmp b a ≡ Greater
 turned a b h = key_order.antisymm b a ∙ ap ordering_reverse h
 
-turned_back : (a b : List Bool) → key_cmp a b ≡ Greater → key_cmp b a ≡ Less
+pub turned_back : (a b : List Bool) → key_cmp a b ≡ Greater → key_cmp b a ≡ Less
 turned_back a b h = key_order.antisymm b a ∙ ap ordering_reverse h
 
 -- what holds of the key or slot of each item
@@ -64,7 +64,7 @@ AllPlaced-with P i (j ∷ js) h a = go (key_cmp (place_of i) (place_of j)) (AllP
     go Equal ih = (h, a.1)
     go Greater ih = (a.0, ih)
 
-AllPlaced-in_order : (P : List Bool → Type 0) (is : List Item) → AllPlaced P is → AllPlaced P (in_order is)
+pub AllPlaced-in_order : (P : List Bool → Type 0) (is : List Item) → AllPlaced P is → AllPlaced P (in_order is)
 AllPlaced-in_order P [] a = tt
 AllPlaced-in_order P (i ∷ is) a = AllPlaced-with P i (in_order is) a.0 (AllPlaced-in_order P is a.1)
 
@@ -212,7 +212,7 @@ Apart-append [] js ls a b = tt
 Apart-append (i ∷ is) js ls a b = (AllAbove-append (place_of i) js ls a.0 b.0, Apart-append is js ls a.1 b.1)
 
 -- in front of one of the others, and of the rest of them
-Apart-parts : (is js : List Item) (j : Item) → Apart is (j ∷ js) → AllPlaced (λ l. key_cmp l (place_of j) ≡ Less) is × Apart is js
+pub Apart-parts : (is js : List Item) (j : Item) → Apart is (j ∷ js) → AllPlaced (λ l. key_cmp l (place_of j) ≡ Less) is × Apart is js
 Apart-parts [] js j a = (tt, tt)
 Apart-parts (i ∷ is) js j a = let r = Apart-parts is js j a.1 in ((a.0.0, r.0), (a.0.1, r.1))
 
@@ -230,7 +230,7 @@ first_apart (i ∷ is) js h a =
     ap (with_item i) (first_apart is js h.1 a.1) ∙ with_item-front i (is ++ in_order js) (AllAbove-append (place_of i) is (in_order js) h.0 (AllAbove-in_order (place_of i) js a.0))
 
 -- an item between others
-with_item-between : (i : Item) (is js : List Item) → AllPlaced (λ l. key_cmp l (place_of i) ≡ Less) is → AllAbove (place_of i) js → with_item i (is ++ js) ≡ is ++ i ∷ js
+pub with_item-between : (i : Item) (is js : List Item) → AllPlaced (λ l. key_cmp l (place_of i) ≡ Less) is → AllAbove (place_of i) js → with_item i (is ++ js) ≡ is ++ i ∷ js
 with_item-between i [] js a b = with_item-front i js b
 with_item-between i (l ∷ ls) js a b =
     ap (λ o. item_beside o i l (ls ++ js) (with_item i (ls ++ js))) (turned (place_of l) (place_of i) a.0) ∙ ap (λ r. l ∷ r) (with_item-between i ls js a.1 b)

@@ -5,6 +5,7 @@ pub mod ToldBeside
 pub mod EntryTests
 pub mod Gathered
 pub mod Descents
+pub mod Among
 pub mod Telling
 pub mod Lists
 pub mod Steps

@@ -1,8 +1,7 @@
 -- What is told beside a range: slots that lead to nodes, and the order of what one node tells.
-use Rattle.std.proofs.Common.{◌≡◌, ℕ, zero, suc, ◌-◌, ◌^◌, ◌<◌, Bool, true, false, List, [], ◌∷◌, ◌++◌, length, get_or, take, drop, refl, sym, ap, ◌∙◌, subst, arith, length-append, take-append-drop, append_assoc, Option, Some, None, Less}
+use Rattle.std.proofs.Common.{◌≡◌, ℕ, zero, suc, ◌-◌, ◌^◌, ◌<◌, Bool, true, false, List, [], ◌∷◌, ◌++◌, length, get_or, refl, sym, ap, ◌∙◌, subst, arith, length-append, append_assoc, Option, Some, None, Less}
 use Rattle.std.specs.Prelude.{if◌then◌else◌, ◌||◌, slice_get}
 use Rattle.std.specs.List.{AllByRecursion}
-use Rattle.std.proofs.lemmas.List.{append-nil}
 use Rattle.base_model.proofs.Bits.{length-bits_of}
 use Rattle.trie_model.specs.Bits.{bits_of, is_prefix, key_cmp, IsRising}
 use Rattle.trie_model.specs.Items.{Item, Stub, places}
@@ -18,7 +17,7 @@ use Rattle.proof_model.specs.Paths.{ProofNode, IsProofNode, IsChild, AreRising}
 use Rattle.proof_model.specs.Claims.{Claim, nodes, leads_to, stub_beside, value_beside, shown_value, in_order}
 use Rattle.proof_model.specs.Refusals.{extends, first_break}
 use Rattle.proof_check.specs.Claims.{stubs_of, told_of}
-use Rattle.proof_check.proofs.InOrder.{rises-in_order, AllAbove, AllAbove-append, AllAbove-through, in_order-rising, in_order-parts}
+use Rattle.proof_check.proofs.InOrder.{rises-in_order, AllAbove, AllAbove-append, AllAbove-through}
 use Rattle.proof_check.proofs.PathOrders.{GoesOn, alone, all_go_on, unbroken_behind}
 
 -- ---- slots that lead to a node

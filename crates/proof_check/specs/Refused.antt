@@ -1,5 +1,5 @@
 -- Why bytes do not prove what they are to prove, in the words of the definitions.
-use Rattle.std.specs.Prelude.{ℕ, Option, Some, None}
+use Rattle.std.specs.Prelude.{Option, Some, None}
 use Rattle.proof_model.specs.Refusals as words
 use Rattle.proof_model.specs.Checked.{Cause, NotRead, NotAccepted}
 use Rattle.proof_model.specs.Wire.{WireKind, Short, wrong}
@@ -7,7 +7,6 @@ use Rattle.proof_check.specs.declared.refusal.Refusal.{Refusal}
 use Rattle.proof_check.specs.declared.refusal.Refusal.TheVariants.{Wire, Verify}
 use Rattle.proof_check.specs.declared.verify_fault.VerifyFault.{VerifyFault}
 use Rattle.proof_check.specs.declared.verify_fault.VerifyFault.TheVariants as faults
-use Rattle.proof_check.specs.declared.wire_fault.WireFault.{WireFault}
 use Rattle.proof_check.specs.Read.{seen_kind}
 
 -- the reason that a fault tells of. No refusal is made of a failed source or of want of memory: these are seen as a change

@@ -13,7 +13,7 @@ use std::collections::VecDeque;
 use trie_items::Item;
 
 /// The key of a value, the slot of a stub.
-fn place(item: &Item) -> &Key
+pub(crate) fn place(item: &Item) -> &Key
     ensures { result.now ≡ place_of (item_of item.now) }
 {
     match item {
