@@ -58,8 +58,8 @@ fn count_before(items: &VecDeque<Item>, key: &Key) -> usize
     count
 }
 
-/// Puts the items of the entries from a key on in among those of the map beside the range. These are
-/// moved, and none of the entries' is.
+/// Puts the items of entries in among others, behind those in front of a key. The queue is turned until
+/// its back is where they go, and turned back then, so that no item is compared with those of entries.
 fn put_in(
     alloc: Global,
     entries: &[Entry],
