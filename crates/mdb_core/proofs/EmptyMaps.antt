@@ -5,7 +5,7 @@ use Rattle.std.proofs.lemmas.List.{nil_from_length}
 use Rattle.base_model.specs.Bytes.{bytes_cmp}
 use Rattle.trie_model.specs.Maps.{Map, entry_item}
 use Rattle.trie_model.specs.Table.{node_keys, items_table, table}
-use Rattle.proof_model.specs.Held.{no_map}
+use Rattle.history_model.specs.Held.{no_map}
 use Rattle.trie_items.specs.Sources.{AreAscending}
 use Rattle.mdb_core.specs.Stores.{DbState, AreDigests, keys_of}
 use Rattle.mdb_core.specs.MapKeys.{map_keys-AreAscending, map_keys-digests}

@@ -5,7 +5,7 @@ use Rattle.trie_model.specs.Hashing.{zero_id}
 use Rattle.trie_model.specs.Maps.{Map, map_digests, root}
 use Rattle.trie_model.specs.Table.{Row}
 use Rattle.proof_model.specs.Refusals.{same_bytes}
-use Rattle.proof_model.specs.Held.{no_map, with_root}
+use Rattle.history_model.specs.Held.{no_map, with_root}
 use Rattle.mdb_core.specs.Stores.{DbState, IsStore}
 
 -- the root that is kept is that of the map

@@ -3,7 +3,7 @@ use Rattle.std.specs.Prelude.{◌≡◌, Some}
 use Rattle.trie_model.specs.Maps.{Map}
 use Rattle.view_model.specs.Forest.{Live, state}
 use Rattle.view_model.specs.Maps.{view_map}
-use Rattle.proof_model.specs.Held.{no_map}
+use Rattle.history_model.specs.Held.{no_map}
 use Rattle.mdb_core.specs.Stores.{DbState}
 use Rattle.mdb_core.specs.declared.naming.Found.{Found}
 use Rattle.mdb_core.specs.declared.naming.Found.TheVariants.{Store, View, Empty}

@@ -8,7 +8,7 @@ use Rattle.base_model.specs.Bytes.{bytes_cmp}
 use Rattle.trie_model.specs.Maps.{Map, digest_entry, map_digests}
 use Rattle.trie_model.proofs.Entries.{IsAscending, entries-IsAscending}
 use Rattle.trie_items.specs.Sources.{AreAscending, map_keys}
-use Rattle.proof_model.specs.Held.{no_map}
+use Rattle.history_model.specs.Held.{no_map}
 use Rattle.mdb_core.specs.Stores.{keys_of}
 
 below : (k : List ℕ) (es : List (List ℕ × List ℕ)) → AllByRecursion (λ (f : List ℕ × List ℕ). bytes_cmp k f.0 ≡ Less) es → AllByRecursion (λ l. bytes_cmp k l ≡ Less) (map (λ (e : List ℕ × List ℕ). e.0) es)

@@ -3,7 +3,7 @@ use Rattle.std.specs.Prelude.{◌≡◌, ℕ, false, true, [], ◌∷◌, Option
 use Rattle.trie_model.specs.Maps.{Map, map_digests}
 use Rattle.view_model.specs.Calls.{Refusal, Unknown as unknown, NotLive as not_live, TooMany as too_many, TooDeep as too_deep, TooHeavy as too_heavy, parent_refused}
 use Rattle.view_model.specs.Maps.{view_map}
-use Rattle.proof_model.specs.Held.{with_root}
+use Rattle.history_model.specs.Held.{with_root}
 use Rattle.view_stack.specs.Told.{state_told}
 use Rattle.mdb_core.specs.Stores.{DbState, is_failed}
 use Rattle.mdb_core.specs.declared.store.At.{At}

@@ -4,7 +4,7 @@ use Rattle.trie_model.specs.Maps.{Map, map_digests}
 use Rattle.trie_model.specs.Table.{table}
 use Rattle.view_model.specs.Forest.{Live, state}
 use Rattle.view_model.specs.Maps.{view_map}
-use Rattle.proof_model.specs.Held.{no_map}
+use Rattle.history_model.specs.Held.{no_map}
 use Rattle.node_table.specs.Pairs.{AreShort}
 use Rattle.mdb_core.specs.Stores.{DbState, keys_of}
 use Rattle.mdb_core.specs.Tidy.{tidy}

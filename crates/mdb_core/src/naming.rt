@@ -1,7 +1,7 @@
 // Which map a place names.
 ghost use Rattle.std.specs.Prelude.{◌≡◌, Some, [], ◌∷◌, option_map, OnOk, IfOk, IfErr, IfSome, IsErrOf};
 ghost use Rattle.trie_model.specs.Maps.{Map, map_digests};
-ghost use Rattle.proof_model.specs.Held.{with_root};
+ghost use Rattle.history_model.specs.Held.{with_root};
 ghost use Rattle.mdb_core.specs.Places.{GetFails, MayRead, map_at};
 ghost use Rattle.mdb_core.specs.Found.{IsThere, map_found};
 

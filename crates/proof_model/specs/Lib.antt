@@ -4,7 +4,6 @@ pub mod Proofs
 pub mod Claims
 pub mod Refusals
 pub mod Wire
-pub mod Held
 pub mod Checked
 pub mod Laws
 pub mod Sound

@@ -6,7 +6,7 @@ use Rattle.std.proofs.lemmas.Cmp.{nat_list_cmp_total}
 use Rattle.trie_model.specs.Hashing.{zero_id}
 use Rattle.trie_model.specs.Maps.{Map, root}
 use Rattle.proof_model.specs.Refusals.{same_bytes}
-use Rattle.proof_model.specs.Held.{no_map, with_root}
+use Rattle.history_model.specs.Held.{no_map, with_root}
 use Rattle.session_model.specs.Named.{held}
 use Rattle.session_model.specs.Worked.{NamedMaps}
 

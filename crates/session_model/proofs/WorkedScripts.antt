@@ -26,7 +26,7 @@ use Rattle.text_model.specs.Texts.{LimitKind, commit_text, proof_text, range_tex
 use Rattle.text_model.specs.ReadLine.{Line, Commit, Take, Script, read_line}
 use Rattle.session_model.specs.Limits.{pairs_limit, payload_limit}
 use Rattle.session_model.specs.Refusals.{take_refused}
-use Rattle.proof_model.specs.Held.{no_map}
+use Rattle.history_model.specs.Held.{no_map}
 use Rattle.session_model.specs.Named.{proof_of, range_proof_of, not_held}
 use Rattle.session_model.specs.Session.{Session, Step, prints, refuses, told_range, start, committed, commit_step, commit, or_limit, taken, taken_map, take_step, read_step, step}
 use Rattle.session_model.specs.Script.{Played, play, and_then, ended}

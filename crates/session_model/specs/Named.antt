@@ -4,7 +4,7 @@ use Rattle.trie_model.specs.Hashing.{zero_id}
 use Rattle.trie_model.specs.Maps.{Map}
 use Rattle.range_model.specs.Ranges.{Range}
 use Rattle.text_model.specs.Words.{RootWord, Id, Now, Empty, Back}
-use Rattle.proof_model.specs.Held.{with_root, back}
+use Rattle.history_model.specs.Held.{with_root, back}
 use Rattle.proof_model.specs.Proofs.{point_proof}
 use Rattle.proof_model.specs.RangeProofs.{range_proof}
 use Rattle.proof_model.specs.RangeWire.{range_form}

@@ -1,0 +1,5 @@
+pub mod Values
+pub mod Deltas
+pub mod Changes
+pub mod Cuts
+pub mod WorkedHistories

@@ -1,0 +1,5 @@
+pub mod Changes
+pub mod Held
+pub mod Between
+pub mod Laws
+pub mod Worked
