@@ -1,0 +1,4 @@
+pub mod Histories
+pub mod Nets
+pub mod Merged
+pub mod Told
