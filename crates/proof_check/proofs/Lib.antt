@@ -11,3 +11,4 @@ pub mod Lists
 pub mod Steps
 pub mod Whole
 pub mod WholeRanges
+pub mod WholeChanges

@@ -1,10 +1,9 @@
--- What is left of a list of nodes, children or pairs: one more, or nothing.
+-- What is left of a list of nodes, children or other values: one more, or nothing.
 use Rattle.std.proofs.Common.{◌≡◌, ℕ, suc, ◌+◌, ◌-◌, ◌<◌, ◌≤◌, List, [], ◌∷◌, Ok, Err, refl, arith}
 use Rattle.base_model.specs.Fields.{Field, ◌>>=◌, bytes_at}
 use Rattle.trie_model.specs.Hashing.{hash_length}
 use Rattle.trie_model.specs.Maps.{Limits}
-use Rattle.proof_model.specs.Wire.{WireFault, Short, wrong, index_at, children_at, node_at, nodes_at}
-use Rattle.proof_model.specs.RangeWire.{pair_at, listed_at}
+use Rattle.proof_model.specs.Wire.{WireFault, Short, wrong, index_at, children_at, node_at, nodes_at, listed_at}
 use Rattle.proof_check.specs.Read.{child_at}
 use Rattle.proof_check.proofs.Lists.{one_and}
 
@@ -36,11 +35,11 @@ pub no_children : (count i w low : ℕ) (bytes : List ℕ) (at : ℕ) → count 
 unfolding children_at
 no_children count i w low bytes at le = let k : count - i ≡ 0 = omega arith in rw k refl
 
--- one pair more
-pub more_pairs : (l : Limits) (count i : ℕ) (bytes : List ℕ) (at : ℕ) → i < count → listed_at l (count - i) bytes at ≡ one_and (pair_at l bytes at) (λ x. listed_at l (count - (i + 1)) bytes x.1)
+-- one value more of any grammar
+pub more_listed : {A : Type 0} (read : List ℕ → ℕ → Field WireFault A) (count i : ℕ) (bytes : List ℕ) (at : ℕ) → i < count → listed_at read (count - i) bytes at ≡ one_and (read bytes at) (λ x. listed_at read (count - (i + 1)) bytes x.1)
 unfolding listed_at
-more_pairs l count i bytes at lt = let k : count - i ≡ suc (count - (i + 1)) = omega arith in rw k refl
+more_listed read count i bytes at lt = let k : count - i ≡ suc (count - (i + 1)) = omega arith in rw k refl
 
-pub no_pairs : (l : Limits) (count i : ℕ) (bytes : List ℕ) (at : ℕ) → count ≤ i → listed_at l (count - i) bytes at ≡ Ok ([], at)
+pub no_listed : {A : Type 0} (read : List ℕ → ℕ → Field WireFault A) (count i : ℕ) (bytes : List ℕ) (at : ℕ) → count ≤ i → listed_at read (count - i) bytes at ≡ Ok ([], at)
 unfolding listed_at
-no_pairs l count i bytes at le = let k : count - i ≡ 0 = omega arith in rw k refl
+no_listed read count i bytes at le = let k : count - i ≡ 0 = omega arith in rw k refl

@@ -16,7 +16,7 @@ use Rattle.proof_check.specs.declared.claim.Entry.{Entry}
 use Rattle.proof_check.specs.declared.claim.Claim.{Claim}
 use Rattle.proof_check.specs.declared.verify_fault.VerifyFault.{VerifyFault}
 use Rattle.proof_check.specs.declared.verify_fault.VerifyFault.TheVariants as faults
-use Rattle.proof_check.specs.Claims.{pair_of, keys_of, claim_of, entry_less, entry_outside, entry_refusal, HaveBytes, AreUnbroken, IsCheckable}
+use Rattle.proof_check.specs.Claims.{pair_of, keys_of, claim_of, entry_less, entry_outside, entry_refusal, listed_refusal, HaveBytes, AreUnbroken, IsCheckable}
 use Rattle.proof_check.specs.Told.{IsReason, Tells, FaultCosts}
 use Rattle.proof_check.proofs.EntryTests.{first_break-map, first_place-map}
 use Rattle.proof_check.proofs.PathOrders.{unbroken_from}
@@ -81,7 +81,8 @@ path_none : (start end : List ProofNode) → path_refusal start end None ≡ Non
 unfolding path_refusal
 path_none start end h = none_of_two PathOrder PathsDiffer (path_break start end) (first_place (disagrees_with start) (length start) end) h
 
-path_next : (start end : List ProofNode) (next : Option Refusal) → path_refusal start end None ≡ None → path_refusal start end next ≡ next
+-- where paths are not refused, the next reason tells
+pub path_next : (start end : List ProofNode) (next : Option Refusal) → path_refusal start end None ≡ None → path_refusal start end next ≡ next
 unfolding path_refusal
 path_next start end next h =
     let p = path_none start end h in
@@ -105,6 +106,24 @@ refusal-is w asked root c =
     let last = path_refusal c.start.now c.end.now (root_refusal (id w (claim_items w (claim_of c))) root) in
     sym (ap (λ o. or_else Unsorted o (or_else Outside (first_place (entry_outside asked) 0 c.entries.now) last)) (first_break-map (λ (e : Entry). e.key.now) is_less 0 c.entries.now)
     ∙ ap (λ o. or_else Unsorted (first_break is_less 0 (keys_of c.entries.now)) (or_else Outside o last)) (first_place-map (λ (e : Entry). e.key.now) (lies_outside asked) 0 c.entries.now))
+
+-- entries and paths alone
+listed-is : (asked : Range) (es : List Entry) (start end : List ProofNode) → listed_refusal asked (keys_of es) start end ≡ entry_refusal asked es (path_refusal start end None)
+listed-is asked es start end =
+    sym (ap (λ o. or_else Unsorted o (or_else Outside (first_place (entry_outside asked) 0 es) (path_refusal start end None))) (first_break-map (λ (e : Entry). e.key.now) is_less 0 es)
+    ∙ ap (λ o. or_else Unsorted (first_break is_less 0 (keys_of es)) (or_else Outside o (path_refusal start end None))) (first_place-map (λ (e : Entry). e.key.now) (lies_outside asked) 0 es))
+
+-- an entry is why
+pub listed_first : (asked : Range) (es : List Entry) (start end : List ProofNode) (f : VerifyFault) → IsReason f (entry_refusal asked es None) → IsReason f (listed_refusal asked (keys_of es) start end)
+listed_first asked es start end f h =
+    subst (IsReason f) (sym (listed-is asked es start end))
+    (told_first f (entry_refusal asked es None) _ (λ r e. first_of_two Unsorted Outside (first_break entry_less 0 es) (first_place (entry_outside asked) 0 es) _ r e) h)
+
+-- else the paths tell
+pub listed_next : {A : Type 0} (asked : Range) (es : List Entry) (start end : List ProofNode) (result : Result A VerifyFault) → entry_refusal asked es None ≡ None → Tells result (path_refusal start end None) → Tells result (listed_refusal asked (keys_of es) start end)
+listed_next asked es start end result e h =
+    let n = none_of_two Unsorted Outside (first_break entry_less 0 es) (first_place (entry_outside asked) 0 es) e in
+    subst (Tells result) (sym (listed-is asked es start end ∙ ap (λ o. or_else Unsorted o (or_else Outside (first_place (entry_outside asked) 0 es) (path_refusal start end None))) n.0 ∙ ap (λ o. or_else Outside o (path_refusal start end None)) n.1)) h
 
 -- keys that strictly increase
 below : (o : Ordering) → is_lt o ≡ true → o ≡ Less

@@ -46,7 +46,7 @@ is_claim b bytes (Ok p) small h =
     let whole : AreBytes (range_form p) = subst AreBytes h.1 (bytes_are bytes small) in
     let pairs = All-front IsByte (pairs_form p.pairs) paths (All-back IsByte (flag_form p.cut) (pairs_form p.pairs ++ paths) whole.1.1) in
     record {
-      listed = have_keys p.pairs (All-back IsByte (uvarint (length p.pairs)) (flat_map pair_form p.pairs) pairs) h.0.pairs.pairs;
+      listed = have_keys p.pairs (All-back IsByte (uvarint (length p.pairs)) (flat_map pair_form p.pairs) pairs) h.0.pairs.each;
       start = proof_nodes (width_of b) p.start h.0.start.nodes;
       end = proof_nodes (width_of b) p.end h.0.end.nodes;
     }

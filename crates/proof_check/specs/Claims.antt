@@ -10,7 +10,7 @@ use Rattle.proof_model.specs.Paths.{ProofNode, IsProofNode}
 use Rattle.proof_model.specs.Proofs.{Pair}
 use Rattle.proof_model.specs.Claims as words
 use Rattle.proof_model.specs.Claims.{nodes, stub_beside, value_beside}
-use Rattle.proof_model.specs.Refusals.{Refusal, Unsorted, Outside, or_else, first_break, first_place, extends, is_less, lies_outside}
+use Rattle.proof_model.specs.Refusals.{Refusal, Unsorted, Outside, or_else, first_break, first_place, extends, is_less, lies_outside, path_refusal}
 use Rattle.proof_model.specs.Sound.{AreSorted}
 use Rattle.proof_check.specs.declared.claim.Entry.{Entry}
 use Rattle.proof_check.specs.declared.claim.Claim.{Claim}
@@ -41,6 +41,10 @@ entry_outside r e = lies_outside r e.key.now
 -- why entries are refused, and else the next reason
 abbrev pub entry_refusal : Range → List Entry → Option Refusal → Option Refusal
 entry_refusal asked es next = or_else Unsorted (first_break entry_less 0 es) (or_else Outside (first_place (entry_outside asked) 0 es) next)
+
+-- why keys and paths are refused
+abbrev pub listed_refusal : Range → List (List ℕ) → List ProofNode → List ProofNode → Option Refusal
+listed_refusal asked keys start end = or_else Unsorted (first_break is_less 0 keys) (or_else Outside (first_place (lies_outside asked) 0 keys) (path_refusal start end None))
 
 -- the children of the node with key k that are told as stubs
 abbrev pub stubs_of : ℕ → words.Claim → List Bool → List (ℕ × List ℕ) → List Item

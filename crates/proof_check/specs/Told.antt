@@ -2,8 +2,15 @@
 use Rattle.std.specs.Prelude.{◌≡◌, ℕ, ◌+◌, Option, Some, None, Result, Ok, Err}
 use Rattle.proof_model.specs.Refusals.{Refusal}
 use Rattle.proof_model.specs.Refusals as words
+use Rattle.trie_items.specs.declared.source_fault.SourceFault.{SourceFault}
+use Rattle.trie_items.specs.declared.source_fault.SourceFault.TheVariants as sources
 use Rattle.proof_check.specs.declared.verify_fault.VerifyFault.{VerifyFault}
 use Rattle.proof_check.specs.declared.verify_fault.VerifyFault.TheVariants as faults
+
+-- the fault where the source of the local pairs gives no answer
+abbrev pub of_source : SourceFault → VerifyFault
+of_source sources.Failed = faults.Failed
+of_source sources.NoMemory = faults.NoMemory
 
 -- a fault is the reason; want of memory may come in the place of any answer, and a failed source never
 abbrev pub IsReason : VerifyFault → Option Refusal → Type 0

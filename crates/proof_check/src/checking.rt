@@ -5,11 +5,13 @@ ghost use Rattle.trie_model.specs.Strings.{strings};
 ghost use Rattle.bit_keys.specs.Branch.{width_of};
 ghost use Rattle.proof_model.specs.Claims.{claim_items};
 ghost use Rattle.proof_model.specs.Refusals.{first_break, first_place, lies_outside, refusal, root_refusal, or_else, Outside};
-ghost use Rattle.proof_check.specs.Claims.{claim_of, entry_less, entry_outside, entry_refusal, HaveBytes, IsCheckable};
+ghost use Rattle.proof_check.specs.Claims.{claim_of, keys_of, entry_less, entry_outside, entry_refusal, listed_refusal, HaveBytes, IsCheckable};
 ghost use Rattle.proof_check.specs.Told.{Tells, Costs};
 
 use crate::claim::{Claim, Entry};
 use crate::items::items_of;
+use crate::paths::check_paths;
+use crate::proof_node::ProofNode;
 use crate::verify_fault::VerifyFault;
 use bit_keys::{Branch, Id, Range};
 use std::alloc::Global;
@@ -67,6 +69,20 @@ fn check_entries(entries: &[Entry], asked: &Range) -> Result<(), VerifyFault>
         Some(place) => Err(VerifyFault::Unsorted(place)),
         None => check_inside(entries, asked),
     }
+}
+
+/// What is told of entries and of paths alone: whether the keys strictly increase and lie in the range, and
+/// whether the paths are in order and agree.
+pub fn check_listed(
+    asked: &Range,
+    entries: &[Entry],
+    start: &[ProofNode],
+    end: &[ProofNode],
+) -> Result<(), VerifyFault>
+    ensures { Tells result (listed_refusal asked.now (keys_of entries.now) start.now end.now) }
+{
+    check_entries(entries, asked)?;
+    check_paths(start, end)
 }
 
 /// Whether items have a root, all of it.

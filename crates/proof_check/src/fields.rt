@@ -8,7 +8,8 @@ ghost use Rattle.proof_check.specs.Read.{Gives, size_limit, size_fault};
 use crate::sized_field::SizedField;
 use crate::wire_fault::{WireFault, WireKind};
 use crate::writing::VERSION;
-use mdb_base::read_uvarint;
+use mdb_base::{NoMemory, read_uvarint};
+use std::alloc::Global;
 
 /// A number.
 #[tactic(auto, unfolding(base_model::specs::Fields::number_at))]
@@ -109,4 +110,14 @@ pub(crate) fn maybe_of(
     }
     let (found, at) = sized_of(bytes, at, what)?;
     Ok((Some(found), at))
+}
+
+/// The bytes, where there are some.
+pub(crate) fn copied(alloc: Global, bytes: Option<&[u8]>) -> Result<Option<Vec<u8>>, NoMemory>
+    ensures { IfOk result (λ v. option_map (λ x. x.items) v ≡ option_map (λ r. r.now) bytes.entry) }
+{
+    match bytes {
+        Some(bytes) => Ok(Some(Vec::from_slice(alloc, bytes)?)),
+        None => Ok(None),
+    }
 }

@@ -1,5 +1,5 @@
-//! Proofs as values and as bytes, and their check: the nodes of a path, the proofs of one key and of a
-//! range, why bytes are no proof, and why a proof is refused.
+//! Proofs as values and as bytes, and their check: the nodes of a path, the proofs of one key, of a range
+//! and of changes, why bytes are no proof, and why a proof is refused.
 //!
 //! It stands on `trie_items`, `node_codec`, `bit_keys`, `mdb_base` and the words of `proof_model`.
 //! `WireFault` says of bytes that are no proof which field is the first one outside the grammar,
@@ -8,6 +8,9 @@
 #![tactic(auto)]
 
 mod beside;
+mod change;
+mod change_bytes;
+mod change_reading;
 mod checking;
 mod claim;
 mod fields;
@@ -29,7 +32,8 @@ mod verify_fault;
 mod wire_fault;
 mod writing;
 
-pub use checking::check;
+pub use change::ChangeProof;
+pub use checking::{check, check_listed};
 pub use claim::{Claim, Entry};
 pub use items::items_of;
 pub use point::PointProof;

@@ -1,7 +1,8 @@
 // The pairs of a proof, read field by field from the left.
 ghost use Rattle.std.specs.Prelude.{◌≡◌, ◌≤◌, length, IfOk};
 ghost use Rattle.trie_model.specs.Maps.{limits};
-ghost use Rattle.proof_model.specs.RangeWire.{pair_at, listed_at, pairs_at};
+ghost use Rattle.proof_model.specs.Wire.{listed_at};
+ghost use Rattle.proof_model.specs.RangeWire.{pair_at, pairs_at};
 ghost use Rattle.proof_check.specs.Read.{Gives};
 
 use crate::fields::{number_of, sized_of};
@@ -11,7 +12,7 @@ use crate::wire_fault::WireFault;
 use std::alloc::Global;
 
 /// The number of pairs, and the pairs.
-#[tactic(auto, unfolding(proof_model::specs::RangeWire::pairs_at))]
+#[tactic(auto, unfolding(proof_model::specs::Wire::counted_at))]
 pub(crate) fn pairs_of(
     alloc: Global,
     bytes: &[u8],
@@ -33,7 +34,7 @@ fn listed_of(
     count: u64,
 ) -> Result<(Vec<Pair>, usize), WireFault>
     requires { at ≤ length bytes.now }
-    ensures exact { Gives (λ x. (x.0.items, x.1)) result (listed_at limits count bytes.now at) }
+    ensures exact { Gives (λ x. (x.0.items, x.1)) result (listed_at (pair_at limits) count bytes.now at) }
     ensures inside { IfOk result (λ x. x.1 ≤ length bytes.now) }
 {
     let mut pairs = Vec::new(alloc);

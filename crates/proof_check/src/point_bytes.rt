@@ -1,4 +1,4 @@
-ghost use Rattle.std.specs.Prelude.{◌≡◌, ◌++◌, length, option_map, IfOk, OnOk, OnErr, Ok};
+ghost use Rattle.std.specs.Prelude.{◌≡◌, ◌++◌, length, IfOk, OnOk, OnErr, Ok};
 ghost use Rattle.std.specs.List.{AllByRecursion};
 ghost use Rattle.base_model.specs.Bytes.{Grown};
 ghost use Rattle.bit_keys.specs.Branch.{width_of};
@@ -8,7 +8,7 @@ ghost use Rattle.proof_model.specs.Proofs.{PointProof as ShownPoint};
 ghost use Rattle.proof_model.specs.Wire.{IsPoint, point_form, point_of as point_read};
 ghost use Rattle.proof_check.specs.Read.{Gives};
 
-use crate::fields::{head_of, maybe_of};
+use crate::fields::{copied, head_of, maybe_of};
 use crate::path_reading::path_of;
 use crate::point::PointProof;
 use crate::sized_field::SizedField;
@@ -42,15 +42,6 @@ fn point_of(alloc: Global, bytes: &[u8], branch: Branch) -> Result<PointProof, W
         return Err(WireKind::Trailing.at(at));
     }
     Ok(PointProof { value, path })
-}
-
-fn copied(alloc: Global, bytes: Option<&[u8]>) -> Result<Option<Vec<u8>>, NoMemory>
-    ensures { IfOk result (λ v. option_map (λ x. x.items) v ≡ option_map (λ r. r.now) bytes.entry) }
-{
-    match bytes {
-        Some(bytes) => Ok(Some(Vec::from_slice(alloc, bytes)?)),
-        None => Ok(None),
-    }
 }
 
 impl PointProof {

@@ -1,3 +1,4 @@
+mod change_bytes;
 mod claims;
 mod damage;
 mod plain;

@@ -1,9 +1,11 @@
 ghost use Rattle.std.specs.Prelude.{◌≡◌};
 ghost use Rattle.proof_check.specs.declared.verify_fault.VerifyFault.TheVariants.{NoMemory as no_memory};
+ghost use Rattle.proof_check.specs.Told.{of_source};
 
 use bit_keys::Id;
 use std::alloc::{AllocError, AllocFailed};
 use thiserror::Error;
+use trie_items::SourceFault;
 
 /// Why a proof is not accepted. Nodes are counted from 0, those of the start path first and then
 /// those of the end path.
@@ -33,6 +35,17 @@ pub enum VerifyFault {
     /// There was no memory.
     #[error("out of memory")]
     NoMemory,
+}
+
+impl From<SourceFault> for VerifyFault {
+    ghost from_gives = { λ fault e. e ≡ of_source fault };
+
+    fn from(fault: SourceFault) -> VerifyFault {
+        match fault {
+            SourceFault::Failed => VerifyFault::Failed,
+            SourceFault::NoMemory => VerifyFault::NoMemory,
+        }
+    }
 }
 
 impl From<mdb_base::NoMemory> for VerifyFault {

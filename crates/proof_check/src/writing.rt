@@ -5,17 +5,17 @@ ghost use Rattle.std.specs.List.{flat_map};
 ghost use Rattle.std.specs.Option.{option_copied};
 ghost use Rattle.base_model.specs.Bytes.{Grown};
 ghost use Rattle.base_model.specs.Fields.{flag_form};
-ghost use Rattle.batch_model.specs.Batch.{value_form};
+ghost use Rattle.batch_model.specs.Batch.{value_form, change_form};
 ghost use Rattle.batch_model.specs.Sized.{sized_form};
 ghost use Rattle.trie_model.specs.Hashing.{digest_form, key_form, child_form};
-ghost use Rattle.proof_model.specs.Wire.{version, node_form, path_form};
+ghost use Rattle.proof_model.specs.Wire.{version, counted_form, node_form, path_form};
 ghost use Rattle.proof_model.specs.RangeWire.{pair_form, pairs_form};
 ghost use Rattle.trie_items.specs.Children.{children_of};
 
 use crate::proof_node::ProofNode;
 use crate::range::Pair;
 use bit_keys::Key;
-use mdb_base::{NoMemory, write_uvarint};
+use mdb_base::{Change, NoMemory, write_uvarint};
 use node_codec::Digest;
 use trie_items::ChildId;
 
@@ -84,6 +84,33 @@ fn write_pair(pair: &Pair, out: &mut Vec<u8>) -> Result<(), NoMemory>
 {
     write_sized(&pair.key, out)?;
     write_sized(&pair.value, out)
+}
+
+/// The number of changes, and the changes.
+pub(crate) fn write_changes(changes: &[Change], out: &mut Vec<u8>) -> Result<(), NoMemory>
+    ensures ok { OnOk result (out.new.items ≡ out.old.items ++ counted_form change_form changes.now) }
+    ensures err { OnErr result (Grown out.old.items out.new.items) }
+{
+    write_uvarint(out, changes.len() as u64)?;
+    write_each(changes, out)
+}
+
+fn write_each(changes: &[Change], out: &mut Vec<u8>) -> Result<(), NoMemory>
+    ensures ok { OnOk result (out.new.items ≡ out.old.items ++ flat_map change_form changes.now) }
+    ensures err { OnErr result (Grown out.old.items out.new.items) }
+{
+    for change in changes {
+        write_change(change, out)?;
+    }
+    Ok(())
+}
+
+fn write_change(change: &Change, out: &mut Vec<u8>) -> Result<(), NoMemory>
+    ensures ok { OnOk result (out.new.items ≡ out.old.items ++ change_form change.now) }
+    ensures err { OnErr result (Grown out.old.items out.new.items) }
+{
+    write_sized(&change.key, out)?;
+    write_maybe(change.value.as_deref(), out)
 }
 
 /// A path: the number of its nodes, and the nodes.

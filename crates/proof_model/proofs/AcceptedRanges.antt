@@ -28,17 +28,17 @@ not_first reason (Some i) next e = absurd (cc)
 
 module _ (w : ℕ) (asked : Range) (want : List ℕ) (c : Claim) (e : refusal w asked want c ≡ None) where
   -- no key is out of order
-  none_unsorted : first_break is_less 0 c.keys ≡ None
+  pub none_unsorted : first_break is_less 0 c.keys ≡ None
   unfolding refusal
   none_unsorted = not_first Unsorted (first_break is_less 0 c.keys) _ e
 
   -- nor does one lie outside
-  none_outside : first_place (lies_outside asked) 0 c.keys ≡ None
+  pub none_outside : first_place (lies_outside asked) 0 c.keys ≡ None
   unfolding refusal
   none_outside = not_first Outside (first_place (lies_outside asked) 0 c.keys) _ (later Unsorted (first_break is_less 0 c.keys) _ e)
 
 -- keys of which each follows the one before it are in order
-in_turn-AreSorted : (n : ℕ) (es : List Pair) → first_break is_less n (keys_of es) ≡ None → AreSorted es
+pub in_turn-AreSorted : (n : ℕ) (es : List Pair) → first_break is_less n (keys_of es) ≡ None → AreSorted es
 in_turn-AreSorted n [] h = tt
 in_turn-AreSorted n (e ∷ []) h = (tt, tt)
 in_turn-AreSorted n (e ∷ f ∷ es) h = go (bytes_cmp e.0 f.0) refl h (in_turn-AreSorted (suc n) (f ∷ es))
@@ -51,7 +51,7 @@ in_turn-AreSorted n (e ∷ f ∷ es) h = go (bytes_cmp e.0 f.0) refl h (in_turn-
     go Greater q h ih = absurd (cc)
 
 -- keys of which none lies outside lie inside
-all_inside : (r : Range) (n : ℕ) (es : List Pair) → first_place (lies_outside r) n (keys_of es) ≡ None → (e : Pair) → Member es e → holds r e.0 ≡ true
+pub all_inside : (r : Range) (n : ℕ) (es : List Pair) → first_place (lies_outside r) n (keys_of es) ≡ None → (e : Pair) → Member es e → holds r e.0 ≡ true
 all_inside r n [] h e m = absurd m
 all_inside r n (x ∷ es) h e m = go (holds r x.0) refl h (λ h. all_inside r (suc n) es h e) m
   where

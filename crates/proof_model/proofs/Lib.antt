@@ -16,8 +16,15 @@ pub mod TrueItems
 pub mod TrueClaims
 pub mod TruePoints
 pub mod WireEnds
+pub mod WireLists
 pub mod WireRanges
+pub mod WireChanges
 pub mod LastKeys
 pub mod AcceptedRanges
 pub mod TrueRanges
+pub mod ChangedMaps
+pub mod ListedChanges
+pub mod AcceptedChanges
+pub mod TrueChanges
 mod WorkedRanges
+mod WorkedChanges

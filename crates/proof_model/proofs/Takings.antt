@@ -1,7 +1,8 @@
 -- What is taken of a list is the longest front that fits, or one entry.
-use Rattle.std.proofs.Common.{◌≡◌, ℕ, zero, suc, ◌+◌, ◌-◌, ◌<◌, ◌≤◌, Bool, true, false, cond, List, [], ◌∷◌, ◌++◌, length, refl, sym, ap, arith, subst, leb, ◌⊎◌, inl, inr}
+use Rattle.std.proofs.Common.{◌≡◌, ℕ, zero, suc, ◌+◌, ◌-◌, ◌<◌, ◌≤◌, Bool, true, false, cond, List, [], ◌∷◌, ◌++◌, length, refl, sym, ap, ◌∙◌, arith, subst, leb, ltb, ◌⊎◌, inl, inr, length-append}
 use Rattle.std.proofs.lemmas.Bool.Decides.{nat_tests}
-use Rattle.proof_model.specs.Takings.{taken_behind, taken, total, Fits, IsLongest}
+use Rattle.std.proofs.lemmas.List.{append-nil, nil_from_length}
+use Rattle.proof_model.specs.Takings.{taken_behind, taken, is_cut, total, Fits, IsLongest}
 use Rattle.proof_model.specs.Proofs.{pair_size}
 use Rattle.proof_model.specs.Laws.{TakenIsLongest}
 
@@ -10,6 +11,12 @@ yes a b t = grind (arith, nat_tests)
 
 no : (a b : ℕ) → leb a b ≡ false → b < a
 no a b t = grind (arith, nat_tests)
+
+below : (a b : ℕ) → ltb a b ≡ true → a < b
+below a b t = grind (arith, nat_tests)
+
+not_below : (a b : ℕ) → ltb a b ≡ false → b ≤ a
+not_below a b t = grind (arith, nat_tests)
 
 -- the longest front behind some bytes
 record Behind {A : Type 0} (size : A → ℕ) (n z used : ℕ) (xs front : List A) : Type 0 where
@@ -87,6 +94,26 @@ taken-IsLongest {A = A} size (suc n) z (x ∷ xs) h =
 
     whole : (front : List A) → Behind size n z (size x) xs front → IsLongest size (suc n) z (x ∷ xs) (x ∷ front)
     whole front b = record { rest = b.rest; begins = ap (λ ys. x ∷ ys) b.begins; fits = fits front b.count b.bytes; longest = longest front b; some = λ f. omega arith }
+
+-- ---- whether entries remain
+module _ {A : Type 0} (size : A → ℕ) (n z : ℕ) (xs : List A) (pos : 1 ≤ n) where
+  front : IsLongest size n z xs (taken size n z xs)
+  front = taken-IsLongest size n z xs pos
+
+  -- where entries remain some were taken
+  pub cut_some : is_cut size n z xs ≡ true → taken size n z xs ≡ [] → ⊥
+  cut_some c e =
+      let a = below (length (taken size n z xs)) (length xs) c in
+      let b = front.some (λ (q : xs ≡ []). let k = ap length q in omega (arith, a, k)) in
+      let k = ap length e in omega (arith, b, k)
+
+  -- where none remains all were taken
+  pub uncut_all : is_cut size n z xs ≡ false → taken size n z xs ≡ xs
+  uncut_all c =
+      let a = not_below (length (taken size n z xs)) (length xs) c in
+      let b = ap length front.begins ∙ length-append (taken size n z xs) front.rest in
+      let r = nil_from_length front.rest (omega (arith, a, b)) in
+      sym (front.begins ∙ ap (λ r. taken size n z xs ++ r) r ∙ append-nil (taken size n z xs))
 
 pub taken_is_longest : TakenIsLongest
 taken_is_longest n z xs h = taken-IsLongest pair_size n z xs h

@@ -104,13 +104,13 @@ module _ (l : Limits) (m : Map) (asked reached : Range) (is_map : IsMap l m) (fi
 
 -- ---- entries
 -- sorted pairs have no key that is not above the one before it
-no_unsorted : (n : ℕ) (es : List Pair) → AreSorted es → first_break is_less n (map (λ (e : Pair). e.0) es) ≡ None
+pub no_unsorted : (n : ℕ) (es : List Pair) → AreSorted es → first_break is_less n (map (λ (e : Pair). e.0) es) ≡ None
 no_unsorted n [] h = refl
 no_unsorted n (e ∷ []) h = refl
 no_unsorted n (e ∷ f ∷ es) h = rw (h.0.0) (no_unsorted (suc n) (f ∷ es) h.1)
 
 -- pairs that lie in a range have no key outside
-none_outside : (r : Range) (n : ℕ) (es : List Pair) → ((e : Pair) → Member es e → holds r e.0 ≡ true) → first_place (lies_outside r) n (map (λ (e : Pair). e.0) es) ≡ None
+pub none_outside : (r : Range) (n : ℕ) (es : List Pair) → ((e : Pair) → Member es e → holds r e.0 ≡ true) → first_place (lies_outside r) n (map (λ (e : Pair). e.0) es) ≡ None
 none_outside r n [] h = refl
 none_outside r n (e ∷ es) h = go (holds r e.0) (h e (inl refl)) (none_outside r (suc n) es (λ f m. h f (inr m)))
   where
@@ -119,12 +119,12 @@ none_outside r n (e ∷ es) h = go (holds r e.0) (h e (inl refl)) (none_outside 
     go false f ih = absurd cc
 
 -- an ID is not refused against itself
-no_root_refusal : (a : List ℕ) → root_refusal a a ≡ None
+pub no_root_refusal : (a : List ℕ) → root_refusal a a ≡ None
 no_root_refusal a = rw (same_bytes-itself a) refl
 
 -- ---- what is shown
 -- what is made of what is made of a list
-map-map : {A B C : Type 0} (f : A → B) (g : B → C) (xs : List A) → map g (map f xs) ≡ map (λ x. g (f x)) xs
+pub map-map : {A B C : Type 0} (f : A → B) (g : B → C) (xs : List A) → map g (map f xs) ≡ map (λ x. g (f x)) xs
 map-map f g [] = refl
 map-map f g (x ∷ xs) = ap (λ r. g (f x) ∷ r) (map-map f g xs)
 

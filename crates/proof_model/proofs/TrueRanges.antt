@@ -20,18 +20,12 @@ use Rattle.proof_model.specs.Takings.{taken, is_cut, end_or, IsLongest}
 use Rattle.proof_model.specs.TrueClaims.{path_to, IsReached}
 use Rattle.proof_model.proofs.LastKeys.{Last, none, one, last_of, AreSorted-front, holds-up_to}
 use Rattle.proof_model.proofs.SortedPairs.{same_pairs, AreSorted-filter, AreSorted-IsAscending}
-use Rattle.proof_model.proofs.Takings.{taken-IsLongest}
+use Rattle.proof_model.proofs.Takings.{taken-IsLongest, cut_some, uncut_all}
 use Rattle.proof_model.proofs.TrueClaims.{both, up_to-through, true_claims_are_accepted}
 use Rattle.proof_model.proofs.TruePoints.{turned}
 
-below : (a b : ℕ) → ltb a b ≡ true → a < b
-below a b t = grind (arith, nat_tests)
-
-not_below : (a b : ℕ) → ltb a b ≡ false → b ≤ a
-not_below a b t = grind (arith, nat_tests)
-
 -- the pairs of a map in a range are in order
-pairs_in-AreSorted : (m : Map) (r : Range) → AreSorted (pairs_in m r)
+pub pairs_in-AreSorted : (m : Map) (r : Range) → AreSorted (pairs_in m r)
 pairs_in-AreSorted m r = AreSorted-filter (λ (e : Pair). holds r e.0) (entries m) (AreSorted-IsAscending (entries m) (entries-IsAscending m))
 
 -- ---- a front of what a map has in a range
@@ -78,28 +72,13 @@ module _ (m : Map) (asked : Range) (n z : ℕ) (pos : 1 ≤ n) where
   front : IsLongest pair_size n z xs es
   front = taken-IsLongest pair_size n z xs pos
 
-  -- where the taking is cut it took something
-  cut_some : ltb (length es) (length xs) ≡ true → es ≡ [] → ⊥
-  cut_some c e =
-      let a = below (length es) (length xs) c in
-      let b = front.some (λ (q : xs ≡ []). let k = ap length q in omega (arith, a, k)) in
-      let k = ap length e in omega (arith, b, k)
-
-  -- where it is not cut it took all
-  uncut_all : ltb (length es) (length xs) ≡ false → es ≡ xs
-  uncut_all c =
-      let a = not_below (length es) (length xs) c in
-      let b = ap length front.begins ∙ length-append es front.rest in
-      let r = nil_from_length front.rest (omega (arith, a, b)) in
-      sym (front.begins ∙ ap (λ r. es ++ r) r ∙ append-nil es)
-
   -- the range that it tells of, and that it is all that the map has there
   taken_reached : (cut : Bool) → is_cut pair_size n z xs ≡ cut → IsReached m asked (reached_range asked cut es) × (es ≡ pairs_in m (reached_range asked cut es))
-  taken_reached false c = (record { start = refl; end = inl refl }, uncut_all c)
+  taken_reached false c = (record { start = refl; end = inl refl }, uncut_all pair_size n z xs pos c)
   taken_reached true c = go (last_of es (parts m asked es front.rest front.begins).0)
     where
       go : Last es → IsReached m asked (reached_range asked true es) × (es ≡ pairs_in m (reached_range asked true es))
-      go (none e q) = absurd (cut_some c e)
+      go (none e q) = absurd (cut_some pair_size n z xs pos c e)
       go (one e there q highest) =
           subst (λ r. IsReached m asked r × (es ≡ pairs_in m r)) (sym (ap (λ o. end_or o asked) q))
           (front_reached m asked es front.rest front.begins e there highest, front_pairs m asked es front.rest front.begins e there highest)

@@ -13,11 +13,12 @@ use Rattle.trie_model.specs.StoredNode.{FitsLimits}
 use Rattle.batch_model.specs.Sized.{sized_form}
 use Rattle.proof_model.specs.Proofs.{Pair}
 use Rattle.proof_model.specs.RangeProofs.{RangeProof}
-use Rattle.proof_model.specs.RangeWire.{range_kind, pair_form, pairs_form, range_form, IsWirePair, ArePairs, IsRangeProof, pair_at, listed_at, pairs_at, range_of}
+use Rattle.proof_model.specs.RangeWire.{range_kind, pair_form, pairs_form, range_form, IsWirePair, ArePairs, IsRangeProof, pair_at, pairs_at, range_of}
 use Rattle.proof_model.specs.Wire.{Short, Flag, LongKey, LongValue, wrong, bad_number, version, path_form, sized_at, path_at, head_at, all_read}
 use Rattle.proof_model.specs.Laws.{SpelledRangesAreRead, ReadRangesAreSpelled}
 use Rattle.proof_model.proofs.WireEnds.{start, factor_small, head_at-IsRead, head_at-Stands, all_read-end, all_read-nil}
 use Rattle.proof_model.proofs.WireFields.{sized_at-IsRead, sized_at-Stands}
+use Rattle.proof_model.proofs.WireLists.{counted_at-IsRead, counted_at-Stands}
 use Rattle.proof_model.proofs.WireNodes.{path_at-IsRead, path_at-Stands}
 
 -- ---- what is spelled is read
@@ -30,25 +31,10 @@ pair_at-IsRead l e bytes at rest lf vf fits h q =
     let v = sized_at-IsRead LongValue l.value e.1 bytes k.place rest vf fits.value k.inside k.left in
     record { place = v.place; is = rw (k.is, v.is) (refl {a = got e v.place}); left = v.left; inside = v.inside }
 
--- pairs are read, one after the other
-listed_at-IsRead : (l : Limits) (es : List Pair) (bytes : List ℕ) (at : ℕ) (rest : List ℕ) → FitsLimits l → l.value < 2 ^ 64 → AllByRecursion (IsWirePair l) es → at ≤ length bytes → drop at bytes ≡ flat_map pair_form es ++ rest → IsRead (listed_at l (length es) bytes at) es bytes rest
-unfolding listed_at
-listed_at-IsRead l [] bytes at rest lf vf fits h q = record { place = at; is = refl; left = q; inside = h }
-listed_at-IsRead l (e ∷ es) bytes at rest lf vf fits h q =
-    let others = flat_map pair_form es ++ rest in
-    let regrouped : flat_map pair_form (e ∷ es) ++ rest ≡ pair_form e ++ others =
-    ap (λ x. x ++ rest) (flat_map-cons pair_form e es) ∙ append_assoc (pair_form e) (flat_map pair_form es) rest in
-    let f = pair_at-IsRead l e bytes at others lf vf fits.0 h (q ∙ regrouped) in
-    let o = listed_at-IsRead l es bytes f.place rest lf vf fits.1 f.inside f.left in
-    record { place = o.place; is = rw (f.is, o.is) (refl {a = got (e ∷ es) o.place}); left = o.left; inside = o.inside }
-
 -- so are pairs behind their number
 pairs_at-IsRead : (l : Limits) (es : List Pair) (bytes : List ℕ) (at : ℕ) (rest : List ℕ) → FitsLimits l → l.value < 2 ^ 64 → ArePairs l es → at ≤ length bytes → drop at bytes ≡ pairs_form es ++ rest → IsRead (pairs_at l bytes at) es bytes rest
-unfolding pairs_at
 pairs_at-IsRead l es bytes at rest lf vf fits h q =
-    let c = number_at-IsRead bad_number (length es) bytes at (flat_map pair_form es ++ rest) fits.count h (q ∙ append_assoc (uvarint (length es)) (flat_map pair_form es) rest) in
-    let x = listed_at-IsRead l es bytes c.place rest lf vf fits.pairs c.inside c.left in
-    record { place = x.place; is = rw c.is x.is; left = x.left; inside = x.inside }
+    counted_at-IsRead (pair_at l) pair_form (IsWirePair l) (λ e bytes at rest fits h q. pair_at-IsRead l e bytes at rest lf vf fits h q) es bytes at rest fits h q
 
 pub spelled_ranges_are_read : SpelledRangesAreRead
 unfolding range_of
@@ -76,29 +62,9 @@ pair_at-Stands l bytes at e next fits q =
     subst (λ (x : Pair × ℕ). Stands bytes at (pair_form x.0) x.1 × IsWirePair l x.0) (ok_is (pair, v.0.1) (e, next) v.2)
     (Stands-then bytes at k.0.1 v.0.1 (sized_form k.0.0) (sized_form v.0.0) tk.0 tv.0, record { key = tk.1; value = tv.1 })
 
--- pairs that were read stand there
-listed_at-Stands : (l : Limits) (n : ℕ) (bytes : List ℕ) (at : ℕ) (es : List Pair) (next : ℕ) → AreBytes bytes → listed_at l n bytes at ≡ got es next → Stands bytes at (flat_map pair_form es) next × (length es ≡ n) × AllByRecursion (IsWirePair l) es
-unfolding listed_at
-listed_at-Stands l zero bytes at es next fits q =
-    subst (λ (x : List Pair × ℕ). Stands bytes at (flat_map pair_form x.0) x.1 × (length x.0 ≡ 0) × AllByRecursion (IsWirePair l) x.0) (ok_is ([], at) (es, next) q) (refl, refl, tt)
-listed_at-Stands l (suc n) bytes at es next fits q =
-    let f = bind_ok (pair_at l bytes at) (λ first. listed_at l n bytes first.1 >>= λ others. Ok (first.0 ∷ others.0, others.1)) (es, next) q in
-    let o = bind_ok (listed_at l n bytes f.0.1) (λ others. Ok (f.0.0 ∷ others.0, others.1)) (es, next) f.2 in
-    let tf = pair_at-Stands l bytes at f.0.0 f.0.1 fits f.1 in
-    let to = listed_at-Stands l n bytes f.0.1 o.0.0 o.0.1 fits o.1 in
-    let all : Stands bytes at (flat_map pair_form (f.0.0 ∷ o.0.0)) o.0.1 = subst (λ x. Stands bytes at x o.0.1) (sym (flat_map-cons pair_form f.0.0 o.0.0)) (Stands-then bytes at f.0.1 o.0.1 (pair_form f.0.0) (flat_map pair_form o.0.0) tf.0 to.0) in
-    subst (λ (x : List Pair × ℕ). Stands bytes at (flat_map pair_form x.0) x.1 × (length x.0 ≡ suc n) × AllByRecursion (IsWirePair l) x.0) (ok_is (f.0.0 ∷ o.0.0, o.0.1) (es, next) o.2)
-    (all, ap suc to.1, (tf.1, to.2))
-
 -- so do pairs behind their number
 pairs_at-Stands : (l : Limits) (bytes : List ℕ) (at : ℕ) (es : List Pair) (next : ℕ) → AreBytes bytes → pairs_at l bytes at ≡ got es next → Stands bytes at (pairs_form es) next × ArePairs l es
-unfolding pairs_at
-pairs_at-Stands l bytes at es next fits q =
-    let c = bind_ok (number_at bad_number bytes at) (λ count. listed_at l count.0 bytes count.1) (es, next) q in
-    let tc = number_at-Stands bad_number bytes at c.0.0 c.0.1 fits c.1 in
-    let tx = listed_at-Stands l c.0.0 bytes c.0.1 es next fits c.2 in
-    let count : Stands bytes at (uvarint (length es)) c.0.1 = subst (λ m. Stands bytes at (uvarint m) c.0.1) (sym tx.1) tc.0 in
-    (Stands-then bytes at c.0.1 next (uvarint (length es)) (flat_map pair_form es) count tx.0, record { count = subst (λ m. m < 2 ^ 64) (sym tx.1) tc.1; pairs = tx.2 })
+pairs_at-Stands l bytes at es next fits q = counted_at-Stands (pair_at l) pair_form (IsWirePair l) (pair_at-Stands l) bytes at es next fits q
 
 pub read_ranges_are_spelled : ReadRangesAreSpelled
 unfolding range_of

@@ -1,12 +1,14 @@
 -- A proof as bytes, read and then checked: the proof, or why it is none.
 use Rattle.std.specs.Prelude.{ℕ, List, Option, Some, None, Result, Ok, Err}
-use Rattle.trie_model.specs.Maps.{Limits}
+use Rattle.trie_model.specs.Maps.{Map, Limits}
 use Rattle.range_model.specs.Ranges.{Range}
 use Rattle.proof_model.specs.Proofs.{PointProof}
 use Rattle.proof_model.specs.Refusals.{Refusal, point_refusal}
 use Rattle.proof_model.specs.Wire.{WireFault, point_of}
 use Rattle.proof_model.specs.RangeProofs.{RangeProof, range_refusal}
 use Rattle.proof_model.specs.RangeWire.{range_of}
+use Rattle.proof_model.specs.ChangeProofs.{ChangeProof, change_refusal}
+use Rattle.proof_model.specs.ChangeWire.{changes_of}
 
 -- bytes that are no proof, or a proof that is refused
 pub data Cause : Type 0 where
@@ -30,3 +32,7 @@ point_checked l w root key bytes = checked (point_refusal w key root) (point_of 
 -- the range proof that bytes are, accepted for a range and against a root
 unfoldable pub range_checked : Limits → ℕ → List ℕ → Range → List ℕ → Result RangeProof Cause
 range_checked l w root asked bytes = checked (range_refusal w asked root) (range_of l w bytes)
+
+-- the change proof that bytes are, accepted for a range against a local map and a root
+unfoldable pub change_checked : Limits → ℕ → List ℕ → Range → Map → List ℕ → Result ChangeProof Cause
+change_checked l w root asked local bytes = checked (change_refusal w asked local root) (changes_of l w bytes)

@@ -9,6 +9,8 @@ use Rattle.proof_model.specs.Proofs.{Pair, PointProof, pair_size}
 use Rattle.proof_model.specs.Wire.{IsPoint, point_form, point_of}
 use Rattle.proof_model.specs.RangeProofs.{RangeProof}
 use Rattle.proof_model.specs.RangeWire.{IsRangeProof, range_form, range_of}
+use Rattle.proof_model.specs.ChangeProofs.{ChangeProof}
+use Rattle.proof_model.specs.ChangeWire.{IsChangeProof, changes_form, changes_of}
 
 -- what is taken of pairs is the longest front that fits, or one pair
 abbrev pub TakenIsLongest : Type 0
@@ -28,3 +30,10 @@ SpelledRangesAreRead = (l : Limits) (w : ℕ) (p : RangeProof) → FitsLimits l 
 
 abbrev pub ReadRangesAreSpelled : Type 0
 ReadRangesAreSpelled = (l : Limits) (w : ℕ) (bytes : List ℕ) (p : RangeProof) → AreBytes bytes → range_of l w bytes ≡ Ok p → IsRangeProof l w p × (bytes ≡ range_form p)
+
+-- and for change proofs
+abbrev pub SpelledChangesAreRead : Type 0
+SpelledChangesAreRead = (l : Limits) (w : ℕ) (p : ChangeProof) → FitsLimits l → l.value < 2 ^ 64 → IsWidth w → IsChangeProof l w p → changes_of l w (changes_form p) ≡ Ok p
+
+abbrev pub ReadChangesAreSpelled : Type 0
+ReadChangesAreSpelled = (l : Limits) (w : ℕ) (bytes : List ℕ) (p : ChangeProof) → AreBytes bytes → changes_of l w bytes ≡ Ok p → IsChangeProof l w p × (bytes ≡ changes_form p)

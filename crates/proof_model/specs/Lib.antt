@@ -14,3 +14,7 @@ pub mod RangeProofs
 pub mod RangeWire
 pub mod RangeLaws
 pub mod WorkedRanges
+pub mod ChangeProofs
+pub mod ChangeWire
+pub mod ChangeLaws
+pub mod WorkedChanges

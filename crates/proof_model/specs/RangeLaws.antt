@@ -1,5 +1,5 @@
 -- What an accepted range proof proves, and which range proofs are accepted.
-use Rattle.std.specs.Prelude.{◌≡◌, ◌⊎◌, ℕ, ◌≤◌, false, [], length, None}
+use Rattle.std.specs.Prelude.{◌≡◌, ◌⊎◌, ℕ, ◌≤◌, false, List, [], length, None}
 use Rattle.std.specs.List.{AllByRecursion}
 use Rattle.base_model.specs.Bytes.{AreBytes}
 use Rattle.trie_model.specs.Bits.{IsWidth}
@@ -11,10 +11,14 @@ use Rattle.proof_model.specs.Proofs.{Pair}
 use Rattle.proof_model.specs.Claims.{claim_strings}
 use Rattle.proof_model.specs.RangeProofs.{RangeProof, pairs_in, reached_range, range_proof, range_claim, range_refusal}
 
--- a pair whose key is a byte string within the limit
-pub record HasKey (l : Limits) (e : Pair) : Type 0 where
-  pub bytes : AreBytes e.0
-  pub short : length e.0 ≤ l.key
+-- a byte string within the limit of keys
+pub record IsKey (l : Limits) (k : List ℕ) : Type 0 where
+  pub bytes : AreBytes k
+  pub short : length k ≤ l.key
+
+-- a pair with such a key
+abbrev pub HasKey : Limits → Pair → Type 0
+HasKey l e = IsKey l e.0
 
 -- what is asked of a range proof that is handed in as a value: keys within the limit, and nodes for tokens of w bits.
 -- In what order the keys stand is not asked, nor that they lie in any range

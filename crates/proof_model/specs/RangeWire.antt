@@ -1,13 +1,11 @@
 -- Range proofs as bytes: their one spelling, and what is read of any bytes.
-use Rattle.std.specs.Prelude.{ℕ, zero, suc, ◌^◌, ◌<◌, ◌≤◌, List, [], ◌∷◌, ◌++◌, length, Result, Ok}
-use Rattle.std.specs.List.{flat_map, AllByRecursion}
-use Rattle.base_model.specs.Uvarint.{uvarint}
-use Rattle.base_model.specs.Fields.{Field, ◌>>=◌, flag_form, number_at, flag_at}
+use Rattle.std.specs.Prelude.{ℕ, ◌≤◌, List, ◌∷◌, ◌++◌, length, Result, Ok}
+use Rattle.base_model.specs.Fields.{Field, ◌>>=◌, flag_form, flag_at}
 use Rattle.trie_model.specs.Maps.{Limits}
 use Rattle.batch_model.specs.Sized.{sized_form}
 use Rattle.proof_model.specs.Proofs.{Pair}
 use Rattle.proof_model.specs.RangeProofs.{RangeProof}
-use Rattle.proof_model.specs.Wire.{WireFault, Short, Flag, LongKey, LongValue, wrong, bad_number, version, path_form, IsPath, sized_at, path_at, head_at, all_read}
+use Rattle.proof_model.specs.Wire.{WireFault, Short, Flag, LongKey, LongValue, wrong, version, counted_form, path_form, AreCounted, IsPath, sized_at, counted_at, path_at, head_at, all_read}
 
 -- ---- spelling
 
@@ -21,7 +19,7 @@ pair_form e = sized_form e.0 ++ sized_form e.1
 
 -- number of pairs, pairs
 abbrev pub pairs_form : List Pair → List ℕ
-pairs_form es = uvarint (length es) ++ flat_map pair_form es
+pairs_form es = counted_form pair_form es
 
 -- version, kind, flag, pairs, path to the start, path to where the pairs reach
 abbrev pub range_form : RangeProof → List ℕ
@@ -33,9 +31,8 @@ pub record IsWirePair (l : Limits) (e : Pair) : Type 0 where
   pub key : length e.0 ≤ l.key
   pub value : length e.1 ≤ l.value
 
-pub record ArePairs (l : Limits) (es : List Pair) : Type 0 where
-  pub count : length es < 2 ^ 64
-  pub pairs : AllByRecursion (IsWirePair l) es
+abbrev pub ArePairs : Limits → List Pair → Type 0
+ArePairs l es = AreCounted (IsWirePair l) es
 
 -- the keys may have any order here
 pub record IsRangeProof (l : Limits) (w : ℕ) (p : RangeProof) : Type 0 where
@@ -51,18 +48,8 @@ pair_at l bytes at = do
   value ← sized_at LongValue l.value bytes key.1
   Ok ((key.0, value.0), value.1)
 
--- n pairs
-unfoldable pub listed_at : Limits → ℕ → List ℕ → ℕ → Field WireFault (List Pair)
-listed_at l zero bytes at = Ok ([], at)
-listed_at l (suc n) bytes at = do
-  first ← pair_at l bytes at
-  others ← listed_at l n bytes first.1
-  Ok (first.0 ∷ others.0, others.1)
-
-unfoldable pub pairs_at : Limits → List ℕ → ℕ → Field WireFault (List Pair)
-pairs_at l bytes at = do
-  count ← number_at bad_number bytes at
-  listed_at l count.0 bytes count.1
+abbrev pub pairs_at : Limits → List ℕ → ℕ → Field WireFault (List Pair)
+pairs_at l = counted_at (pair_at l)
 
 -- a range proof
 unfoldable pub range_of : Limits → ℕ → List ℕ → Result RangeProof WireFault

@@ -17,9 +17,13 @@ use Rattle.proof_model.specs.Proofs.{PointProof}
 abbrev pub node_form : ProofNode → List ℕ
 node_form n = key_form n.key ++ (digest_form n.digest ++ (uvarint (length n.children) ++ flat_map child_form n.children))
 
+-- how many values there are, and the values
+abbrev pub counted_form : {A : Type 0} → (A → List ℕ) → List A → List ℕ
+counted_form form xs = uvarint (length xs) ++ flat_map form xs
+
 -- number of nodes, nodes
 abbrev pub path_form : List ProofNode → List ℕ
-path_form ns = uvarint (length ns) ++ flat_map node_form ns
+path_form ns = counted_form node_form ns
 
 -- the first byte of each form
 abbrev pub version : ℕ
@@ -34,6 +38,11 @@ abbrev pub point_form : PointProof → List ℕ
 point_form p = version ∷ point_kind ∷ (value_form p.value ++ path_form p.path)
 
 -- ---- the grammar, for maps within the limits and tokens of w bits
+
+-- values of a grammar behind their number
+pub record AreCounted {A : Type 0} (P : A → Type 0) (xs : List A) : Type 0 where
+  pub count : length xs < 2 ^ 64
+  pub each : AllByRecursion P xs
 
 pub record IsPathNode (l : Limits) (w : ℕ) (n : ProofNode) : Type 0 where
   pub node : IsProofNode w n
@@ -105,6 +114,20 @@ unfoldable pub maybe_at : WireKind → ℕ → List ℕ → ℕ → Field WireFa
 maybe_at long limit bytes at = do
   flag ← flag_at (wrong Short) (wrong Flag) bytes at
   if flag.0 then (sized_at long limit bytes flag.1 >>= λ x. Ok (Some x.0, x.1)) else Ok (None, flag.1)
+
+-- n values, one after the other
+unfoldable pub listed_at : {A : Type 0} → (List ℕ → ℕ → Field WireFault A) → ℕ → List ℕ → ℕ → Field WireFault (List A)
+listed_at read zero bytes at = Ok ([], at)
+listed_at read (suc n) bytes at = do
+  first ← read bytes at
+  others ← listed_at read n bytes first.1
+  Ok (first.0 ∷ others.0, others.1)
+
+-- values behind their number
+unfoldable pub counted_at : {A : Type 0} → (List ℕ → ℕ → Field WireFault A) → List ℕ → ℕ → Field WireFault (List A)
+counted_at read bytes at = do
+  count ← number_at bad_number bytes at
+  listed_at read count.0 bytes count.1
 
 -- the number of bits of a node's key: within the limit, and whole tokens
 unfoldable pub bit_count_at : Limits → ℕ → List ℕ → ℕ → Field WireFault ℕ

@@ -5,13 +5,16 @@
 //! nothing here takes memory.
 #![tactic(auto)]
 
-ghost use Rattle.proof_model.specs.Laws.{TakenIsLongest, SpelledPointsAreRead, ReadPointsAreSpelled, SpelledRangesAreRead, ReadRangesAreSpelled};
+ghost use Rattle.proof_model.specs.Laws.{TakenIsLongest, SpelledPointsAreRead, ReadPointsAreSpelled, SpelledRangesAreRead, ReadRangesAreSpelled, SpelledChangesAreRead, ReadChangesAreSpelled};
 ghost use Rattle.proof_model.specs.Sound.{ClaimItemsAreValid, AcceptedClaimsAreTrue, AcceptedPointsAreTrue};
 ghost use Rattle.proof_model.specs.TrueClaims.{DescribedHasTheRoot, TrueClaimsAreAccepted, TruePointsAreAccepted};
 ghost use Rattle.proof_model.specs.Worked.{OneKeyPoints, TwoKeyPoint, ChildPoint, DoubledIsRefused, OneKeyIsAccepted};
 ghost use Rattle.proof_model.specs.RangeLaws.{AcceptedRangesAreTrue, UncutRangesAreWhole, TrueRangesAreAccepted};
+ghost use Rattle.proof_model.specs.ChangeLaws.{AcceptedChangesAreTrue, TrueChangesAreAccepted};
 ghost use Rattle.proof_model.specs.WorkedRanges.{UnboundedRange, OneKeyRange, GapRange, CutRange, SwappedIsRefused, OutsideIsRefused, LeftOutIsRefused, BadFlagIsTold};
+ghost use Rattle.proof_model.specs.WorkedChanges.{OneChange, NoChange, IdleIsRefused, TwiceIsRefused, BesideIsRefused};
 
+use history_model::{changes_lead, changes_of_three, changes_rise, none_to_itself};
 use range_model::{bytes_lie_as_their_bits, slots_lie_as_their_keys};
 
 /// What is taken of pairs is the longest front that fits, or one pair.
@@ -172,3 +175,61 @@ pub fn true_ranges_are_accepted()
     slots_lie_as_their_keys();
     bytes_lie_as_their_bits();
 }
+
+/// A change proof that is spelled is read.
+pub fn spelled_changes_are_read()
+    ensures { SpelledChangesAreRead }
+{}
+
+/// A change proof that is read is spelled so, each byte of it.
+pub fn read_changes_are_spelled()
+    ensures { ReadChangesAreSpelled }
+{}
+
+/// A change proof that is accepted leads to the map up to where its changes reach, or SHA-256 is broken.
+pub fn accepted_changes_are_true()
+    ensures { AcceptedChangesAreTrue }
+{
+    slots_lie_as_their_keys();
+    bytes_lie_as_their_bits();
+}
+
+/// The change proof of two maps is accepted against the root of the later one where the local map is the former one,
+/// however much of the changes is taken.
+pub fn true_changes_are_accepted()
+    ensures { TrueChangesAreAccepted }
+{
+    slots_lie_as_their_keys();
+    bytes_lie_as_their_bits();
+    changes_lead();
+    changes_rise();
+}
+
+/// The bytes of a change proof of one put.
+pub fn one_change()
+    ensures { OneChange }
+{
+    changes_of_three();
+}
+
+/// The bytes of a change proof of no change.
+pub fn no_change()
+    ensures { NoChange }
+{
+    none_to_itself();
+}
+
+/// Changes that change nothing are refused, and a deletion of a key that is there is none of them.
+pub fn idle_is_refused()
+    ensures { IdleIsRefused }
+{}
+
+/// Two changes of one key are refused.
+pub fn twice_is_refused()
+    ensures { TwiceIsRefused }
+{}
+
+/// A change that was not asked for is refused.
+pub fn beside_is_refused()
+    ensures { BesideIsRefused }
+{}

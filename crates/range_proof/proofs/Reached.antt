@@ -27,24 +27,25 @@ use Rattle.proof_check.specs.declared.verify_fault.VerifyFault.{VerifyFault}
 use Rattle.proof_check.specs.declared.verify_fault.VerifyFault.TheVariants as faults
 use Rattle.range_proof.specs.Reaching.{EndsOutside, StandsFor}
 
--- ---- the last pair
+-- ---- the last entry
 
-last_at : (es : List Pair) (n : ℕ) (e : Pair) → length es ≡ suc n → slice_get es n ≡ Some e → last_key (keys_of es) ≡ Some e.0
-last_at [] n e l h = absurd cc
-last_at (x ∷ []) zero e l h = ap (λ (o : Option Pair). elim o [ Some e ↦ Some e.0 | None ↦ None ]) h
-last_at (x ∷ []) (suc n) e l h = absurd (omega arith)
-last_at (x ∷ y ∷ es) zero e l h = absurd (omega arith)
-last_at (x ∷ y ∷ es) (suc n) e l h = last_at (y ∷ es) n e (omega arith) h
+module _ {A : Type 0} (key : A → List ℕ) where
+  last_at : (xs : List A) (n : ℕ) (x : A) → length xs ≡ suc n → slice_get xs n ≡ Some x → last_key (map key xs) ≡ Some (key x)
+  last_at [] n x l h = absurd cc
+  last_at (y ∷ []) zero x l h = ap (λ (o : Option A). elim o [ Some e ↦ Some (key e) | None ↦ None ]) h
+  last_at (y ∷ []) (suc n) x l h = absurd (omega arith)
+  last_at (y ∷ z ∷ xs) zero x l h = absurd (omega arith)
+  last_at (y ∷ z ∷ xs) (suc n) x l h = last_at (z ∷ xs) n x (omega arith) h
 
--- what a list answers as its last pair has the last key
-pub last_is : (es xs : List Pair) (o : Option Pair) (e : Pair) → o ≡ slice_get xs (length xs - 1) → xs ≡ es → o ≡ Some e → last_key (keys_of es) ≡ Some e.0
-last_is es xs o e h p q = subst (λ (es : List Pair). last_key (keys_of es) ≡ Some e.0) p (go xs refl)
-  where
-    go : (ys : List Pair) → xs ≡ ys → last_key (keys_of xs) ≡ Some e.0
-    go [] f = absurd (let k : o ≡ None = h ∙ ap (λ (ys : List Pair). slice_get ys (length ys - 1)) f in cc)
-    go (y ∷ ys) f =
-        let l = ap length f in
-        last_at xs (length xs - 1) e (omega arith) (sym h ∙ q)
+  -- what a list answers as its last entry has the last key
+  pub last_is : (all xs : List A) (o : Option A) (x : A) → o ≡ slice_get xs (length xs - 1) → xs ≡ all → o ≡ Some x → last_key (map key all) ≡ Some (key x)
+  last_is all xs o x h p q = subst (λ (xs : List A). last_key (map key xs) ≡ Some (key x)) p (go xs refl)
+    where
+      go : (ys : List A) → xs ≡ ys → last_key (map key xs) ≡ Some (key x)
+      go [] f = absurd (let k : o ≡ None = h ∙ ap (λ (ys : List A). slice_get ys (length ys - 1)) f in cc)
+      go (y ∷ ys) f =
+          let l = ap length f in
+          last_at xs (length xs - 1) x (omega arith) (sym h ∙ q)
 
 pub reached_end-cut : (r : Range) (cut : Bool) (es : List Pair) (last k : List ℕ) → cut ≡ true → last_key (keys_of es) ≡ Some last → k ≡ last → Some k ≡ (reached_range r cut es).end
 reached_end-cut r cut es last k c h e = rw (c, h) (ap Some e)

@@ -12,5 +12,7 @@ mod taking;
 mod tests;
 mod verifying;
 
-pub use proving::prove;
+pub use proving::{path_of_bound, prove};
+pub use reaching::up_to;
+pub use taking::{least, next_inside};
 pub use verifying::verify;

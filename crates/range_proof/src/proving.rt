@@ -27,7 +27,7 @@ fn reached_end<'a>(range: &'a Range, cut: bool, pairs: &'a [Pair]) -> Option<&'a
 }
 
 /// The path of a bound, where there is one.
-fn path_of_bound<N: NodeSource>(
+pub fn path_of_bound<N: NodeSource>(
     alloc: Global,
     source: &mut N,
     branch: Branch,

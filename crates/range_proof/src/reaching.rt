@@ -21,7 +21,7 @@ fn copied(alloc: Global, bound: Option<&[u8]>) -> Result<Option<Vec<u8>>, NoMemo
 }
 
 /// The range up to a key of it.
-fn up_to(alloc: Global, range: &Range, last: &[u8]) -> Result<Range, NoMemory>
+pub fn up_to(alloc: Global, range: &Range, last: &[u8]) -> Result<Range, NoMemory>
     requires short { length last.now ≤ key_limit }
     requires inside { holds range.now last.now ≡ true }
     ensures bounds { IfOk result (λ r. r ≡ end_or (Some last.now) range.now) }

@@ -11,7 +11,7 @@ use std::alloc::Global;
 use trie_items::{NodeSource, SourceFault};
 
 /// A byte string that is at most each key from the start on, and above those before it.
-fn least(range: &Range) -> &[u8]
+pub fn least(range: &Range) -> &[u8]
     ensures { result.now ≡ least_of range.now.start }
 {
     match range.start() {
@@ -31,7 +31,7 @@ fn inside(range: &Range, key: Option<Vec<u8>>) -> Option<Vec<u8>>
 }
 
 /// The key that follows in the source, where it lies in the range.
-fn next_inside<N: NodeSource>(
+pub fn next_inside<N: NodeSource>(
     alloc: Global,
     source: &mut N,
     range: &Range,

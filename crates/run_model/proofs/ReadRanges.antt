@@ -45,7 +45,7 @@ spelled_claim w p bytes are fits e =
     let whole : AreBytes (range_form p) = subst AreBytes e are in
     let pairs = front (pairs_form p.pairs) paths (back (flag_form p.cut) (pairs_form p.pairs ++ paths) whole.1.1) in
     record {
-      listed = have_keys p.pairs (back (uvarint (length p.pairs)) (flat_map pair_form p.pairs) pairs) fits.pairs.pairs;
+      listed = have_keys p.pairs (back (uvarint (length p.pairs)) (flat_map pair_form p.pairs) pairs) fits.pairs.each;
       start = nodes_of_path w p.start fits.start.nodes;
       end = nodes_of_path w p.end fits.end.nodes;
     }

@@ -18,10 +18,10 @@ use Rattle.text_model.specs.ReadLine.{Batch, Line, Put, Del, read_line}
 use Rattle.text_model.specs.MapOfLines.{after_read, after_lines, map_of_lines}
 use Rattle.text_model.specs.Texts.{root_text, range_text}
 use Rattle.proof_model.specs.Checked.{point_checked, range_checked}
-use Rattle.proof_model.specs.RangeWire.{range_of, pair_at, listed_at, pairs_at}
+use Rattle.proof_model.specs.RangeWire.{range_of, pair_at}
 use Rattle.proof_model.specs.Claims.{claim_items}
 use Rattle.proof_model.specs.Refusals.{refusal, path_refusal}
-use Rattle.proof_model.specs.Wire.{point_of, sized_at, head_at, byte_at, maybe_at, path_at, nodes_at, all_read}
+use Rattle.proof_model.specs.Wire.{point_of, sized_at, head_at, byte_at, maybe_at, path_at, nodes_at, all_read, listed_at, counted_at}
 use Rattle.base_model.specs.Fields.{bytes_at, flag_at, number_at}
 use Rattle.base_model.specs.ReadUvarint.{uvarint_read}
 use Rattle.std.specs.Fmt.{digits}
@@ -124,7 +124,7 @@ unfolding decode_pairs point_checked point_of head_at byte_at bytes_at maybe_at 
 verify_runs = (refl, refl, refl)
 
 pub verify_range_runs : VerifyRangeRuns
-unfolding decode_pairs point_checked point_of range_checked range_of pairs_at listed_at pair_at sized_at head_at byte_at bytes_at maybe_at flag_at path_at number_at uvarint_read nodes_at all_read refusal path_refusal claim_items id id_within zero_id digits
+unfolding decode_pairs point_checked point_of range_checked range_of counted_at listed_at pair_at sized_at head_at byte_at bytes_at maybe_at flag_at path_at number_at uvarint_read nodes_at all_read refusal path_refusal claim_items id id_within zero_id digits
 verify_range_runs = (refl, refl, refl, refl)
 
 -- the line of the proof that the empty map has no keys

@@ -1,5 +1,5 @@
-use super::plain::{read_point, read_range};
-use crate::{PointProof, RangeProof, WireFault};
+use super::plain::{read_changes, read_point, read_range};
+use crate::{ChangeProof, PointProof, RangeProof, WireFault};
 use bit_keys::Branch;
 use std::alloc::Global;
 use std::process::Abort;
@@ -10,12 +10,14 @@ use std::test::Fail;
 pub(super) enum Form {
     Point,
     Range,
+    Change,
 }
 
 fn told(alloc: Global, form: Form, bytes: &[u8], branch: Branch) -> Result<(), WireFault> {
     match form {
         Form::Point => PointProof::decode(alloc, bytes, branch).map(|_| ()),
         Form::Range => RangeProof::decode(alloc, bytes, branch).map(|_| ()),
+        Form::Change => ChangeProof::decode(alloc, bytes, branch).map(|_| ()),
     }
 }
 
@@ -23,6 +25,7 @@ fn plainly_told(form: Form, bytes: &[u8], width: u32) -> Result<(), WireFault> {
     match form {
         Form::Point => read_point(bytes, width),
         Form::Range => read_range(bytes, width),
+        Form::Change => read_changes(bytes, width),
     }
 }
 

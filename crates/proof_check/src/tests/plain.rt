@@ -38,6 +38,20 @@ pub(super) fn read_range(bytes: &[u8], width: u32) -> Result<(), WireFault> {
     plain.end()
 }
 
+/// What is wrong with bytes that are to be a change proof, at so many bits a token.
+pub(super) fn read_changes(bytes: &[u8], width: u32) -> Result<(), WireFault> {
+    let mut plain = Plain { bytes, at: 0 };
+    plain.head(2)?;
+    plain.flag()?;
+    for _ in 0..plain.number()? {
+        plain.sized(256, WireKind::LongKey)?;
+        plain.maybe(262_144, WireKind::LongValue)?;
+    }
+    plain.path(width)?;
+    plain.path(width)?;
+    plain.end()
+}
+
 impl Plain<'_> {
     fn next(&mut self) -> Option<u8> {
         let byte = *self.bytes.get(self.at)?;

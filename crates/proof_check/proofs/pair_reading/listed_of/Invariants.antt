@@ -1,6 +1,7 @@
 use Rattle.std.proofs.Common.{◌≡◌, ◌-◌, ◌≤◌, length}
 use Rattle.trie_model.specs.Maps.{limits}
-use Rattle.proof_model.specs.RangeWire.{listed_at}
+use Rattle.proof_model.specs.Wire.{listed_at}
+use Rattle.proof_model.specs.RangeWire.{pair_at}
 use Rattle.proof_check.proofs.Lists.{with_front}
 use Rattle.proof_check.proofs.pair_reading.listed_of.Given as goal
 
@@ -8,5 +9,5 @@ use Rattle.proof_check.proofs.pair_reading.listed_of.Given as goal
 abbrev pub invariant-loop : goal.invariant-loop
 invariant-loop l = record {
   inside : l.next ≤ length l.bytes;
-  so_far : with_front l.pairs.items (listed_at limits (l.count - l.counter) l.bytes l.next) ≡ listed_at limits l.count l.bytes l.at;
+  so_far : with_front l.pairs.items (listed_at (pair_at limits) (l.count - l.counter) l.bytes l.next) ≡ listed_at (pair_at limits) l.count l.bytes l.at;
 }

@@ -10,14 +10,14 @@ use Rattle.range_proof.proofs.reaching.shorter.Goals as goal
 pub returns-then-not-holds : goal.returns-then-not-holds
 returns-then-not-holds c =
     let pairs = c.deref.ensures.value ∙ ap (λ (p : RangeProof). p.pairs) c.proof.view_is in
-    let last = last_is c.args.proof.now.pairs c.deref.result.now (option_copied c.last.result) c.in-Some.last.now c.last.ensures.value pairs (ap option_copied c.in-Some.is) in
+    let last = last_is (λ (e : Pair). e.0) c.args.proof.now.pairs c.deref.result.now (option_copied c.last.result) c.in-Some.last.now c.last.ensures.value pairs (ap option_copied c.in-Some.is) in
     let key = c.deref-2.ensures.value ∙ ap (λ (e : Pair). e.0) c.last-2.view_is in
     record { range = c.start-start.ensures.range; tells = inr (refl, (c.in-Some.last.now.0, last, ap (holds c.args.asked.now) (sym key) ∙ sym c.holds.ensures ∙ c.if-not-holds.true)) }
 
 pub returns : goal.returns
 returns c =
     let pairs = c.deref.ensures.value ∙ ap (λ (p : RangeProof). p.pairs) c.proof.view_is in
-    let last = last_is c.args.proof.now.pairs c.deref.result.now (option_copied c.last.result) c.in-Some.last.now c.last.ensures.value pairs (ap option_copied c.in-Some.is) in
+    let last = last_is (λ (e : Pair). e.0) c.args.proof.now.pairs c.deref.result.now (option_copied c.last.result) c.in-Some.last.now c.last.ensures.value pairs (ap option_copied c.in-Some.is) in
     let key = c.deref-3.ensures.value ∙ ap (λ (e : Pair). e.0) c.last-2.view_is in
     let cut = sym (ap (λ (p : RangeProof). p.cut) c.proof.view_is) ∙ c.if-not-proof.false in
     record {
