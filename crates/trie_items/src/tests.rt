@@ -26,114 +26,105 @@ fn uncounted_id<L: Ledger>(
     id_of(key, digest, children, &mut steps)
 }
 
-// That a node's string is the pieces, behind what was there, and that its ID is their SHA-256.
+// The first bits of a key.
+fn key_of(alloc: Global, bytes: &[u8], bits: u64) -> Result<Key, Fail> {
+    let key = Key::from_bytes(alloc, bytes)?;
+    if bits > key.bits() {
+        return Err(Fail::new("the key is shorter"));
+    }
+    Ok(key.first(alloc, bits)?)
+}
+
+// That a node's string is the one given, behind what was there, and that its ID is the SHA-256 of it.
 fn assert_hashed(
     rt: &impl Abort,
     alloc: Global,
     key: &Key,
-    digest: Option<&Digest>,
+    value: Option<&[u8]>,
     children: &[ChildId],
-    pieces: &[&[u8]],
+    want: &[u8],
 ) -> Result<(), Fail> {
-    let mut want = Vec::new(alloc);
-    for piece in pieces {
-        want.extend_from_slice(piece)?;
-    }
-    let id = Sha256::digest(want.as_slice());
+    let digest = match value {
+        Some(value) => Some(value_digest(value)),
+        None => None,
+    };
     let mut out = [0xaa].to_vec(alloc)?;
-    node_string(key, digest, children, &mut out)?;
-    let written = out.as_slice();
-    assert!(rt; written.len() == want.len() + 1, "for {want:?}");
-    assert_eq!(rt; &written[1..], want.as_slice());
-    assert_eq!(rt; written[0], 0xaa, "what was there stands");
-    assert_eq!(rt;
-        uncounted_id::<Brand>(key, digest, children, Blank::new(1)),
-        id,
-        "for {want:?}"
-    );
+    node_string(key, digest.as_ref(), children, &mut out)?;
+    let mut behind = [0xaa].to_vec(alloc)?;
+    behind.extend_from_slice(want)?;
+    assert_eq!(rt; out.as_slice(), behind.as_slice());
+    let id = uncounted_id::<Brand>(key, digest.as_ref(), children, Blank::new(1));
+    assert_eq!(rt; id, Sha256::digest(want), "for {want:?}");
     Ok(())
 }
 
+const FIRST: Id = *b"11111111111111111111111111111111";
+
+const SECOND: Id = *b"22222222222222222222222222222222";
+
+const LOW: [ChildId; 2] = [
+    ChildId {
+        index: 2,
+        id: FIRST,
+    },
+    ChildId {
+        index: 3,
+        id: SECOND,
+    },
+];
+
+const FAR: [ChildId; 2] = [
+    ChildId {
+        index: 0,
+        id: FIRST,
+    },
+    ChildId {
+        index: 200,
+        id: SECOND,
+    },
+];
+
+// No value, one of a byte, of none, of 31 bytes, and of 32, which is not taken literally; and two children at four
+// bits, and at 128 bits with an index above 127.
 #[test]
 fn a_node_is_hashed_as_its_pieces_in_order(rt: HostRuntime) -> Result<(), Fail> {
     let alloc = rt.alloc();
-    let first = [0x11; 32];
-    let second = [0x22; 32];
-    let none = Key::from_bytes(alloc, &[])?;
-    assert_hashed(&rt, alloc, &none, None, &[], &[&[0, 0, 0]])?;
-
-    // A value alone, the empty one among them, and one of 32 bytes, which is not taken literally.
-    let leaf = Key::from_bytes(alloc, &[0x6b])?;
-    let short = value_digest(&[0x76]);
-    assert_hashed(
-        &rt,
-        alloc,
-        &leaf,
-        Some(&short),
-        &[],
-        &[&[0, 1, 1, 0x76, 8, 0x6b]],
-    )?;
-    let empty = value_digest(&[]);
-    assert_hashed(&rt, alloc, &leaf, Some(&empty), &[], &[&[0, 1, 0, 8, 0x6b]])?;
-    let long = value_digest(&[0x61; 32]);
-    let hash = Sha256::digest(&[0x61u8; 32]);
-    assert_hashed(
-        &rt,
-        alloc,
-        &leaf,
-        Some(&long),
-        &[],
-        &[&[0, 1, 0x20], &hash, &[8, 0x6b]],
-    )?;
-
-    // Two children at four bits, at seven bits, and at 128 bits with an index above 127.
-    let two = [
-        ChildId {
-            index: 2,
-            id: first,
-        },
-        ChildId {
-            index: 3,
-            id: second,
-        },
+    let rows: [(&[u8], u64, Option<&[u8]>, &[ChildId], &[u8]); 7] = [
+        (b"", 0, None, &[], b"\x00\x00\x00"),
+        (b"k", 8, Some(b"v"), &[], b"\x00\x01\x01v\x08k"),
+        (b"k", 8, Some(b""), &[], b"\x00\x01\x00\x08k"),
+        (
+            b"k",
+            8,
+            Some(b"aaaaaaaaaaaaaaaaaaaaaaaaaaaaaaa"),
+            &[],
+            b"\x00\x01\x1faaaaaaaaaaaaaaaaaaaaaaaaaaaaaaa\x08k",
+        ),
+        (
+            b"k",
+            8,
+            Some(b"aaaaaaaaaaaaaaaaaaaaaaaaaaaaaaaa"),
+            &[],
+            b"\x00\x01\x20;\xa3\xf5\xf4;\x92`&\x83\xc1\x9a\xeeb\xa2\x03B\xb0\x84\xddYq\xdd\xd38\x08\xd8\x1a2\x88y\xa5G\x08k",
+        ),
+        (
+            b"\x12",
+            4,
+            None,
+            &LOW,
+            b"\x02\x0211111111111111111111111111111111\x0322222222222222222222222222222222\x00\x04\x10",
+        ),
+        (
+            b"ZZZZZZZZZZZZZZZZ",
+            128,
+            Some(b"v"),
+            &FAR,
+            b"\x02\x0011111111111111111111111111111111\xc8\x0122222222222222222222222222222222\x01\x01v\x80\x01ZZZZZZZZZZZZZZZZ",
+        ),
     ];
-    let byte = Key::from_bytes(alloc, &[0x12])?;
-    let four = byte.first(alloc, 4)?;
-    let pieces: [&[u8]; 5] = [&[2, 2], &first, &[3], &second, &[0, 4, 0x10]];
-    assert_hashed(&rt, alloc, &four, None, &two, &pieces)?;
-    let wide = [
-        ChildId {
-            index: 0,
-            id: first,
-        },
-        ChildId {
-            index: 200,
-            id: second,
-        },
-    ];
-    let deep = Key::from_bytes(alloc, &[0x5a; 16])?;
-    let pieces: [&[u8]; 6] = [
-        &[2, 0],
-        &first,
-        &[0xc8, 0x01],
-        &second,
-        &[1, 1, 0x76, 0x80, 0x01],
-        &[0x5a; 16],
-    ];
-    assert_hashed(&rt, alloc, &deep, Some(&short), &wide, &pieces)?;
+    for (bytes, bits, value, children, want) in rows {
+        let key = key_of(alloc, bytes, bits)?;
+        assert_hashed(&rt, alloc, &key, value, children, want)?;
+    }
     Ok(())
-}
-
-#[test]
-fn a_value_is_literal_below_32_bytes(rt: HostRuntime) {
-    let bytes = [0x61u8; 33];
-    assert_eq!(rt; value_digest(&bytes[..31]).bytes(), &bytes[..31]);
-    assert_eq!(rt;
-        value_digest(&bytes[..32]).bytes(),
-        Sha256::digest(&bytes[..32]).as_slice()
-    );
-    assert_eq!(rt;
-        value_digest(&bytes).bytes(),
-        Sha256::digest(&bytes).as_slice()
-    );
 }
