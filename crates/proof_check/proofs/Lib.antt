@@ -6,6 +6,7 @@ pub mod EntryTests
 pub mod Gathered
 pub mod Descents
 pub mod Among
+pub mod Between
 pub mod Telling
 pub mod Lists
 pub mod Steps

@@ -1,5 +1,5 @@
 -- The first items of two lists, and those in front of a key.
-use Rattle.std.specs.Prelude.{Bool, List, [], ◌∷◌, ◌++◌, take, drop}
+use Rattle.std.specs.Prelude.{Bool, false, List, [], ◌∷◌, ◌++◌, take, drop}
 use Rattle.std.specs.List.{prefix_len}
 use Rattle.std.specs.declared.cmp.Ordering.{Ordering}
 use Rattle.std.specs.declared.cmp.Ordering.TheVariants.{Less, Greater}
@@ -17,6 +17,11 @@ fronts_cmp (i ∷ is) (j ∷ js) = key_cmp (place_of i) (place_of j)
 -- an item stands in front of a key
 abbrev pub is_before : List Bool → Item → Bool
 is_before k i = is_lt (key_cmp (place_of i) k)
+
+-- the first item stands in front of a key
+abbrev pub begins_before : List Bool → List Item → Bool
+begins_before k [] = false
+begins_before k (i ∷ is) = is_before k i
 
 -- items in among others, behind those in front of a key
 abbrev pub put_before : List Bool → List Item → List Item → List Item

@@ -185,8 +185,17 @@ fn push_behind(
     push_stubs(alloc, branch, claim, &node.key, back, told)
 }
 
+/// How many items the nodes of a path tell at most. It makes room for them, and decides nothing else.
+pub(crate) fn most_told(path: &[ProofNode]) -> usize {
+    let mut most = 0usize;
+    for node in path {
+        most = most.saturating_add(node.children.len()).saturating_add(1);
+    }
+    most
+}
+
 /// Adds what each node tells in front of those behind it, from the first node on.
-fn push_down(
+pub(crate) fn push_down(
     alloc: Global,
     branch: Branch,
     claim: &Claim,
@@ -204,7 +213,7 @@ fn push_down(
 }
 
 /// Adds what each node tells behind them, from the last node back.
-fn push_up(
+pub(crate) fn push_up(
     alloc: Global,
     branch: Branch,
     claim: &Claim,
@@ -235,7 +244,7 @@ pub(crate) fn told_beside(
     requires unbroken { AreUnbroken (claim_of claim.now) }
     ensures { IfOk result (λ q. map item_of q.items ≡ in_order (told_of (width_of branch) (claim_of claim.now) path.now)) }
 {
-    let mut told = VecDeque::new(alloc);
+    let mut told = VecDeque::with_capacity(alloc, most_told(path))?;
     push_down(alloc, branch, claim, path, &mut told)?;
     push_up(alloc, branch, claim, path, &mut told)?;
     Ok(told)

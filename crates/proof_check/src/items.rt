@@ -1,4 +1,4 @@
-ghost use Rattle.std.specs.Prelude.{◌≡◌, ◌≤◌, ◌++◌, map, IfOk, OnOk, None};
+ghost use Rattle.std.specs.Prelude.{◌≡◌, ◌≤◌, ◌++◌, [], map, drop, IfOk, IfSome, OnOk, None};
 ghost use Rattle.std.specs.List.{prefix_len};
 ghost use Rattle.std.specs.VecDeque.{deque_len};
 ghost use Rattle.trie_model.specs.Maps.{limits, entry_item as item_of_pair};
@@ -8,10 +8,11 @@ ghost use Rattle.proof_model.specs.Claims.{claim_items};
 ghost use Rattle.proof_model.specs.Refusals.{path_refusal};
 ghost use Rattle.proof_model.specs.Sound.{IsClaim};
 ghost use Rattle.proof_check.specs.Claims.{claim_of, pair_of, AreUnbroken};
-ghost use Rattle.proof_check.specs.Fronts.{is_before, put_before};
+ghost use Rattle.proof_check.specs.Fronts.{begins_before, is_before, put_before};
+ghost use Rattle.proof_check.specs.Descents.{IsPathOf, told_down, told_up};
 ghost use Rattle.proof_check.specs.Told.{Tells};
 
-use crate::beside::told_beside;
+use crate::beside::{most_told, push_down, push_up, told_beside};
 use crate::claim::{Claim, Entry};
 use crate::merging::{merge, place};
 use crate::paths::check_paths;
@@ -58,6 +59,40 @@ fn count_before(items: &VecDeque<Item>, key: &Key) -> usize
     count
 }
 
+/// Whether an item stands at a place, and comes before a key.
+fn starts_before(items: &VecDeque<Item>, at: usize, key: &Key) -> bool
+    ensures { result ≡ begins_before key.now (map item_of (drop at items.now.items)) }
+{
+    at < items.len() && place(&items[at]).compare(key).is_lt()
+}
+
+/// What the start path tells on the way down, the items of the entries, and what the path tells on the way back
+/// up; none where one of the ways has an item on the wrong side of the key, which is that of the first entry.
+fn put_between(
+    alloc: Global,
+    branch: Branch,
+    claim: &Claim,
+    key: &Key,
+) -> Result<Option<VecDeque<Item>>, NoMemory>
+    requires path { IsPathOf (width_of branch) (claim_of claim.now) claim.now.start.now }
+    requires unbroken { AreUnbroken (claim_of claim.now) }
+    ensures { IfOk result (λ made. IfSome made (λ q. map item_of q.items ≡ put_before key.now (map item_of_pair (map pair_of claim.now.entries.now)) (told_down (width_of branch) (claim_of claim.now) claim.now.start.now ++ told_up (width_of branch) (claim_of claim.now) claim.now.start.now))) }
+{
+    let room = most_told(claim.start).saturating_add(claim.entries.len());
+    let mut items = VecDeque::with_capacity(alloc, room)?;
+    push_down(alloc, branch, claim, claim.start, &mut items)?;
+    if count_before(&items, key) < items.len() {
+        return Ok(None);
+    }
+    push_entries(alloc, claim.entries, &mut items)?;
+    let behind = items.len();
+    push_up(alloc, branch, claim, claim.start, &mut items)?;
+    if starts_before(&items, behind, key) {
+        return Ok(None);
+    }
+    Ok(Some(items))
+}
+
 /// Puts the items of entries in among others, behind those in front of a key. The queue is turned until
 /// its back is where they go, and turned back then, so that no item is compared with those of entries.
 fn put_in(
@@ -69,6 +104,7 @@ fn put_in(
     ensures { IfOk result (λ q. map item_of q.items ≡ put_before key.now (map item_of_pair (map pair_of entries.now)) (map item_of beside.items)) }
 {
     let mut items = beside;
+    items.reserve(entries.len())?;
     let before = count_before(&items, key);
     let after = items.len() - before;
     items.rotate_left(before);
@@ -77,8 +113,30 @@ fn put_in(
     Ok(items)
 }
 
-/// The items of a claim whose paths are in order, in the order of the keys.
-fn gather(alloc: Global, branch: Branch, claim: &Claim) -> Result<VecDeque<Item>, NoMemory>
+/// The items of a claim that has no end path, where its entries lie between the way down its start path and the
+/// way back up. So it is where the path leads to the first of them; no item is moved then.
+fn gather_one(
+    alloc: Global,
+    branch: Branch,
+    claim: &Claim,
+) -> Result<Option<VecDeque<Item>>, NoMemory>
+    requires claim { IsClaim limits (width_of branch) (claim_of claim.now) }
+    requires unbroken { AreUnbroken (claim_of claim.now) }
+    requires alone { claim.now.end.now ≡ [] }
+    ensures { IfOk result (λ made. IfSome made (λ q. map item_of q.items ≡ claim_items (width_of branch) (claim_of claim.now))) }
+{
+    bytes_lie_as_their_bits();
+    match claim.entries {
+        [] => Ok(None),
+        [first, ..] => {
+            let key = Key::from_bytes(alloc, first.key)?;
+            put_between(alloc, branch, claim, &key)
+        }
+    }
+}
+
+/// The items of a claim, put together of what both paths tell and of those of its entries.
+fn gather_both(alloc: Global, branch: Branch, claim: &Claim) -> Result<VecDeque<Item>, NoMemory>
     requires claim { IsClaim limits (width_of branch) (claim_of claim.now) }
     requires unbroken { AreUnbroken (claim_of claim.now) }
     ensures { IfOk result (λ q. map item_of q.items ≡ claim_items (width_of branch) (claim_of claim.now)) }
@@ -94,6 +152,20 @@ fn gather(alloc: Global, branch: Branch, claim: &Claim) -> Result<VecDeque<Item>
             put_in(alloc, claim.entries, &key, beside)
         }
     }
+}
+
+/// The items of a claim whose paths are in order, in the order of the keys.
+fn gather(alloc: Global, branch: Branch, claim: &Claim) -> Result<VecDeque<Item>, NoMemory>
+    requires claim { IsClaim limits (width_of branch) (claim_of claim.now) }
+    requires unbroken { AreUnbroken (claim_of claim.now) }
+    ensures { IfOk result (λ q. map item_of q.items ≡ claim_items (width_of branch) (claim_of claim.now)) }
+{
+    if claim.end.is_empty() {
+        if let Some(items) = gather_one(alloc, branch, claim)? {
+            return Ok(items);
+        }
+    }
+    gather_both(alloc, branch, claim)
 }
 
 /// The items of a claim. It tells of the paths alone why they are refused.

@@ -151,7 +151,9 @@ fn children_of(
     ensures exact { Gives (λ x. (shown_children x.0.items, x.1)) result (children_at count (width_of branch) 0 bytes.now at) }
     ensures inside { IfOk result (λ x. x.1 ≤ length bytes.now) }
 {
-    let mut children = Vec::new(alloc);
+    // The count may be any number, but a node has no more children than the factor.
+    let most = count.min(u64::from(branch.factor()));
+    let mut children = Vec::with_capacity(alloc, most as usize)?;
     let mut next = at;
     // The index may not be below this one.
     let mut low = 0;

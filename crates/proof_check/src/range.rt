@@ -50,7 +50,7 @@ impl RangeProof {
         ensures pairs { IfOk result (λ es. map pair_of es.items ≡ self.now.pairs) }
         ensures keys { IfOk result (λ es. keys_of es.items ≡ listed_keys self.now.pairs) }
     {
-        let mut entries = Vec::new(alloc);
+        let mut entries = Vec::with_capacity(alloc, self.pairs.len())?;
         for pair in &self.pairs {
             entries.push(Entry {
                 key: &pair.key,

@@ -12,5 +12,5 @@ returns c =
     let w = width_of c.args.branch in
     let k = claim_of c.args.claim.now in
     c.in_ok-push_up.ensures
-    ∙ ap (λ r. r ++ told_up w k c.args.path.now) (c.in_ok-push_down.ensures ∙ ap (λ is. map item_of is ++ told_down w k c.args.path.now) c.new-told.ensures.items)
+    ∙ ap (λ r. r ++ told_up w k c.args.path.now) (c.in_ok-push_down.ensures ∙ ap (λ is. map item_of is ++ told_down w k c.args.path.now) c.in_ok-told.ensures.items)
     ∙ sym (descent w k c.args.path.now (width_positive c.args.branch) c.requires.path)

@@ -11,7 +11,7 @@ use Rattle.proof_check.proofs.path_reading.children_of.Goals as goal
 
 pub returns-in_err-child-clause-exact : goal.returns-in_err-child-clause-exact
 returns-in_err-child-clause-exact c =
-    let p = err_from_is_err_and c.from_residual.result c.from_residual.ensures.1 in
+    let p = err_from_is_err_and c.from_residual-in_err-child.result c.from_residual-in_err-child.ensures.1 in
     let w = width_of c.args.branch in
     let bytes = c.args.bytes.now in
     rw (p.1, p.2) (ends c.in_err-child.field-0.0 (children_of c.loop.children.items) (child_at w c.loop.low bytes c.loop.next) (λ x. children_at (c.args.count - (c.loop.counter + 1)) w (suc x.0.0) bytes x.1) (children_at (c.args.count - c.loop.counter) w c.loop.low bytes c.loop.next) (children_at c.args.count w 0 bytes c.args.at)

@@ -8,7 +8,7 @@ use Rattle.proof_check.proofs.ToldBeside.{rises_made}
 use Rattle.proof_check.proofs.Descents.{start_path, end_path}
 use Rattle.proof_check.proofs.Gathered.{gathered}
 use Rattle.proof_check.proofs.Among.{none_listed, some_listed, beside_out}
-use Rattle.proof_check.proofs.items.gather.Goals as goal
+use Rattle.proof_check.proofs.items.gather_both.Goals as goal
 
 pub told_beside-requires-clause-path : goal.told_beside-requires-clause-path
 told_beside-requires-clause-path c = start_path (width_of c.args.branch) (claim_of c.args.claim.now) c.requires.claim.shown c.requires.unbroken.start
