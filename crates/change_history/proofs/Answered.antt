@@ -16,9 +16,9 @@ use Rattle.change_history.specs.declared.net.Net.{Net}
 use Rattle.change_history.specs.declared.merging.Step.{Step}
 use Rattle.change_history.specs.declared.telling.Taken.{Taken}
 use Rattle.change_history.specs.declared.fault.HistoryFault.TheVariants as faults
-use Rattle.change_history.specs.Histories.{HistoryState, Recalls, held_by, roots}
+use Rattle.change_history.specs.Histories.{HistoryState, Recalls, held_by, roots, undo_of}
 use Rattle.change_history.specs.Merged.{added_of, turn_of}
-use Rattle.change_history.specs.Nets.{Turn, net_of, nets_of, undo_of, turn, map_at, IsSum}
+use Rattle.change_history.specs.Nets.{Turn, net_of, nets_of, turn, map_at, IsSum}
 use Rattle.change_history.specs.Told.{fits, AreListed, Tells, LeadsBack}
 use Rattle.change_history.proofs.Runs.{Merging, merging_goes}
 use Rattle.change_history.proofs.Takes.{Taking, takes_one, takes_no_more, takes_all}

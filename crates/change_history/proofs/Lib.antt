@@ -6,3 +6,4 @@ pub mod Sums
 pub mod Takes
 pub mod Undone
 pub mod Answered
+pub mod Remembered

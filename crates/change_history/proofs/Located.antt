@@ -7,7 +7,7 @@ use Rattle.base_model.specs.Bytes.{bytes_cmp}
 use Rattle.trie_model.specs.Maps.{Map, root}
 use Rattle.proof_model.specs.Refusals.{first_place, same_bytes}
 use Rattle.history_model.specs.Held.{held_behind, held, until_root, is_held, back}
-use Rattle.change_history.specs.Histories.{CommitState, HistoryState, roots, is_root, Follow, Recalls, held_by}
+use Rattle.change_history.specs.Histories.{CommitState, HistoryState, roots, from_root, is_root, Follow, Recalls, held_by}
 
 -- ---- the roots that a history keeps
 
@@ -62,6 +62,50 @@ found_at w h maps id from o is r =
     subst (Located w (drop from (held_by h maps)) id from)
     (sym (is ∙ ap (λ rs. first_place (same_bytes id) from (drop from rs)) (roots_held w h maps r) ∙ ap (first_place (same_bytes id) from) (drop-map w from (held_by h maps))))
     (located w (drop from (held_by h maps)) id from)
+
+-- whether a root is kept, by the place that is found
+pub told_kept : (id : List ℕ) (rs : List (List ℕ)) (n : ℕ) → is_some (first_place (same_bytes id) n rs) ≡ list_any (same_bytes id) rs
+told_kept id [] n = refl
+told_kept id (r ∷ rs) n = go (same_bytes id r) (told_kept id rs (suc n))
+  where
+    go : (b : Bool) → is_some (first_place (same_bytes id) (suc n) rs) ≡ list_any (same_bytes id) rs → is_some (cond b (Some n) (first_place (same_bytes id) (suc n) rs)) ≡ (b || list_any (same_bytes id) rs)
+    go true ih = refl
+    go false ih = ih
+
+pub kept_there : (id : List ℕ) (rs : List (List ℕ)) (o : Option ℕ) (p : ℕ) → o ≡ first_place (same_bytes id) 0 (drop 0 rs) → o ≡ Some p → list_any (same_bytes id) rs ≡ true
+kept_there id rs o p is some = sym (told_kept id rs 0) ∙ ap is_some (sym is ∙ some)
+
+pub kept_nowhere : (id : List ℕ) (rs : List (List ℕ)) (o : Option ℕ) → o ≡ first_place (same_bytes id) 0 (drop 0 rs) → o ≡ None → list_any (same_bytes id) rs ≡ false
+kept_nowhere id rs o is none = sym (told_kept id rs 0) ∙ ap is_some (sym is ∙ none)
+
+-- the roots from the first that is one on, by its place, counted from n
+abbrev pub Rest : List (List ℕ) → List ℕ → ℕ → Option ℕ → Type 0
+Rest rs id n None = from_root id rs ≡ []
+Rest rs id n (Some p) = (k : ℕ) × (p ≡ n + k) × (from_root id rs ≡ drop k rs)
+
+rest_from : (id : List ℕ) (rs : List (List ℕ)) (n : ℕ) → Rest rs id n (first_place (same_bytes id) n rs)
+rest_from id [] n = refl
+rest_from id (r ∷ rs) n = go (same_bytes id r) refl (first_place (same_bytes id) (suc n) rs) (rest_from id rs (suc n))
+  where
+    behind : same_bytes id r ≡ false → (o : Option ℕ) → Rest rs id (suc n) o → Rest (r ∷ rs) id n o
+    behind e None l = ap (λ b. cond b (r ∷ rs) (from_root id rs)) e ∙ l
+    behind e (Some p) l = (suc l.0, omega (arith, l.1), ap (λ b. cond b (r ∷ rs) (from_root id rs)) e ∙ l.2)
+
+    go : (b : Bool) → same_bytes id r ≡ b → (o : Option ℕ) → Rest rs id (suc n) o → Rest (r ∷ rs) id n (cond b (Some n) o)
+    go true e o l = (0, omega arith, ap (λ b. cond b (r ∷ rs) (from_root id rs)) e)
+    go false e o l = behind e o l
+
+-- of two roots of which the first is not kept, the second is not kept behind it
+pub start_nowhere : (from to : List ℕ) (rs : List (List ℕ)) (o : Option ℕ) → o ≡ first_place (same_bytes to) 0 (drop 0 rs) → o ≡ None → list_any (same_bytes from) (from_root to rs) ≡ false
+start_nowhere from to rs o is none = ap (list_any (same_bytes from)) (subst (Rest rs to 0) (sym is ∙ none) (rest_from to rs 0))
+
+-- else it is kept there where it is found from the place of the first on
+pub start_told : (from to : List ℕ) (rs : List (List ℕ)) (o u : Option ℕ) (p : ℕ) → o ≡ first_place (same_bytes to) 0 (drop 0 rs) → o ≡ Some p → u ≡ first_place (same_bytes from) p (drop p rs)
+    → list_any (same_bytes from) (from_root to rs) ≡ is_some u
+start_told from to rs o u p is some was = go (subst (Rest rs to 0) (sym is ∙ some) (rest_from to rs 0))
+  where
+    go : Rest rs to 0 (Some p) → list_any (same_bytes from) (from_root to rs) ≡ is_some u
+    go l = let e : l.0 ≡ p = omega (arith, l.1) in ap (list_any (same_bytes from)) (l.2 ∙ ap (λ k. drop k rs) e) ∙ sym (told_kept from (drop p rs) p) ∙ ap is_some (sym was)
 
 pub told_held : (w : ℕ) (h : HistoryState) (maps : List Map) (id : List ℕ) (o : Option ℕ) → o ≡ first_place (same_bytes id) 0 (drop 0 (roots h)) → Recalls w h maps → is_some o ≡ is_held w (held_by h maps) id
 told_held w h maps id o is r = ap is_some (is ∙ ap (first_place (same_bytes id) 0) (roots_held w h maps r)) ∙ any 0 (held_by h maps)

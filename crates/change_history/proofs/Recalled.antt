@@ -1,11 +1,12 @@
 -- Which maps a history recalls, before a commit and after it.
-use Rattle.std.proofs.Common.{◌≡◌, ℕ, zero, suc, ◌-◌, ◌≤◌, Bool, true, false, cond, nat_le, List, [], ◌∷◌, drop, refl, sym, ap, ◌∙◌, subst, arith}
+use Rattle.std.proofs.Common.{◌≡◌, ℕ, zero, suc, ◌-◌, ◌<◌, ◌≤◌, Bool, true, false, cond, nat_le, List, [], ◌∷◌, drop, refl, sym, ap, ◌∙◌, subst, arith}
 use Rattle.std.specs.List.{sum_by}
 use Rattle.trie_model.specs.Maps.{Map, root}
 use Rattle.history_model.specs.Changes.{Delta, deltas, delta_weight, weight}
 use Rattle.history_model.specs.Held.{held_behind, held}
 use Rattle.history_model.proofs.Cuts.{cuts_are_one}
-use Rattle.change_history.specs.Histories.{CommitState, HistoryState, commit_weight, kept, pushed, Follow, Recalls}
+use Rattle.history_model.proofs.WorkedHistories.{heavy_stands_alone}
+use Rattle.change_history.specs.Histories.{CommitState, HistoryState, commit_weight, kept, pushed, restarted, Follow, Recalls}
 
 -- the commits that are kept led from the maps that are held
 pub follow_kept : (w n z : ℕ) (m : Map) (cs : List CommitState) (ms : List Map) → Follow w m cs ms → Follow w m (kept n z cs) (held_behind n z m ms)
@@ -45,3 +46,7 @@ recalls-first w n z m id h is e = subst (λ (h : HistoryState). Recalls w h (m �
     none : (n : ℕ) → Follow w m [] (held_behind n z m [])
     none zero = tt
     none (suc n) = tt
+
+-- after a commit that is too heavy
+pub recalls-restarted : (w : ℕ) (h : HistoryState) (id : List ℕ) (m former : Map) (maps : List Map) → h.weight < weight former m → id ≡ root w m → Recalls w (restarted h id) (m ∷ former ∷ maps)
+recalls-restarted w h id m former maps heavy e = (e, subst (λ ms. Follow w m [] (drop 1 ms)) (sym (heavy_stands_alone h.commits h.weight m former maps heavy)) tt)

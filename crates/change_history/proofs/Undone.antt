@@ -16,7 +16,7 @@ use Rattle.history_model.specs.Changes.{Delta, same_value, deltas, lies_in, chan
 use Rattle.history_model.specs.Laws.{values_at}
 use Rattle.history_model.proofs.Deltas.{Values, keyed, differ, values_at-deltas, deltas-sorted, one_list}
 use Rattle.history_model.proofs.Changes.{AreSorted, first, second, all_changes_lead}
-use Rattle.change_history.specs.Nets.{undo_of}
+use Rattle.change_history.specs.Histories.{undo_of}
 
 -- ---- one change after another
 
@@ -91,3 +91,7 @@ undone m1 m2 ds e =
     ap (λ ds. after_batch m2 (map undo_of ds)) (e ∙ filter-everything (deltas m1 m2))
     ∙ ap (after_batch m2) (undo-back (deltas m1 m2) ∙ ap (map change_of) (sym (deltas_back m1 m2) ∙ sym (filter-everything (deltas m2 m1))))
     ∙ all_changes_lead m2 m1
+
+-- so do all of them
+pub undone_all : (m1 m2 : Map) (ds : List Delta) → ds ≡ deltas m1 m2 → after_batch m2 (map undo_of ds) ≡ m1
+undone_all m1 m2 ds e = undone m1 m2 ds (e ∙ sym (filter-everything (deltas m1 m2)))

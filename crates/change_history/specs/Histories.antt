@@ -2,6 +2,7 @@
 use Rattle.std.specs.Prelude.{◌≡◌, ℕ, zero, suc, ◌-◌, ◌<◌, ◌≤◌, ◌^◌, Bool, false, nat_le, if◌then◌else◌, List, [], ◌∷◌, length, map, Option, Some, None}
 use Rattle.std.specs.List.{sum_by}
 use Rattle.trie_model.specs.Maps.{Map, root}
+use Rattle.batch_model.specs.Batch.{Change, after_batch}
 use Rattle.proof_model.specs.Refusals.{same_bytes}
 use Rattle.history_model.specs.Changes.{Delta, deltas, delta_weight}
 use Rattle.history_model.specs.Held.{held_behind, held}
@@ -48,9 +49,18 @@ no_commits commits weight root = record { commits = commits; weight = weight; ro
 abbrev pub pushed : HistoryState → List Delta → List ℕ → HistoryState
 pushed h ds id = record h { root = id; ring = kept h.commits h.weight (record { deltas = ds; former = h.root } ∷ h.ring) }
 
+-- after a commit that is too heavy to be kept, and led to this root
+abbrev pub restarted : HistoryState → List ℕ → HistoryState
+restarted h id = record h { root = id; ring = [] }
+
 -- the root of the present map, and behind it those of the maps before
 abbrev pub roots : HistoryState → List (List ℕ)
 roots h = h.root ∷ map (λ (c : CommitState). c.former) h.ring
+
+-- the first of some roots that is this one, and all behind it
+abbrev pub from_root : List ℕ → List (List ℕ) → List (List ℕ)
+from_root id [] = []
+from_root id (r ∷ rs) = if same_bytes id r then r ∷ rs else from_root id rs
 
 -- this is a root, where there is one
 abbrev pub is_root : List ℕ → Option (List ℕ) → Bool
@@ -74,3 +84,26 @@ Recalls w h (m ∷ ms) = (h.root ≡ root w m) × Follow w m h.ring (held_behind
 -- the maps that are held of these
 abbrev pub held_by : HistoryState → List Map → List Map
 held_by h maps = held h.commits h.weight maps
+
+-- ---- what is remembered
+
+-- the change that takes a delta back
+abbrev pub undo_of : Delta → Change
+undo_of d = record { key = d.key; value = d.before }
+
+-- the map before a commit, from the map after it
+abbrev pub map_before : Map → CommitState → Map
+map_before m c = after_batch m (map undo_of c.deltas)
+
+-- the maps that some commits undo, one after another, from a map on
+abbrev pub maps_behind : Map → List CommitState → List Map
+maps_behind m [] = []
+maps_behind m (c ∷ cs) = map_before m c ∷ maps_behind (map_before m c) cs
+
+-- a map, and the maps before it as a history tells them
+abbrev pub recalled : HistoryState → Map → List Map
+recalled h m = m ∷ maps_behind m h.ring
+
+-- a history whose present map is this one recalls the maps that it tells
+abbrev pub Remembers : ℕ → HistoryState → Map → Type 0
+Remembers w h m = Recalls w h (recalled h m)

@@ -5,7 +5,6 @@ use Rattle.std.specs.Ordering.{match_ordering}
 use Rattle.base_model.specs.Bytes.{bytes_cmp}
 use Rattle.trie_model.specs.Maps.{Map}
 use Rattle.range_model.specs.Ranges.{Range}
-use Rattle.batch_model.specs.Batch.{Change}
 use Rattle.history_model.specs.Changes.{Delta, same_value, deltas, lies_in}
 use Rattle.history_model.specs.Held.{no_map}
 use Rattle.change_history.specs.Histories.{HistoryState, Recalls, held_by}
@@ -17,10 +16,6 @@ net_of n = record { key = n.first.now.key; before = n.first.now.before; after = 
 
 abbrev pub nets_of : List Net → List Delta
 nets_of ns = map net_of ns
-
--- the change that takes a delta back
-abbrev pub undo_of : Delta → Change
-undo_of d = record { key = d.key; value = d.before }
 
 -- ---- two lists of deltas as one
 

@@ -1,5 +1,5 @@
 -- What is told of changes, and of the way back.
-use Rattle.std.specs.Prelude.{◌≡◌, ℕ, zero, suc, ◌+◌, Bool, true, ◌&&◌, nat_lt, nat_le, List, [], ◌∷◌, Result, Ok, Err, Option, Some, None, slice_get}
+use Rattle.std.specs.Prelude.{◌≡◌, ℕ, zero, suc, ◌+◌, Bool, true, false, ◌&&◌, nat_lt, nat_le, List, [], ◌∷◌, Result, Ok, Err, Option, Some, None, slice_get}
 use Rattle.trie_model.specs.Maps.{Map}
 use Rattle.batch_model.specs.Batch.{Change, after_batch}
 use Rattle.proof_model.specs.Takings.{taken, is_cut}
@@ -46,3 +46,19 @@ LeadsBack maps [] result = result ≡ Err faults.NoEnd
 LeadsBack maps (target ∷ ms) (Err fault) = fault ≡ faults.NoMemory
 LeadsBack [] (target ∷ ms) (Ok batch) = ⊥
 LeadsBack (now ∷ maps) (target ∷ ms) (Ok batch) = after_batch now batch ≡ target
+
+-- ---- what is told by the roots alone
+
+-- NoEnd tells that the root at which an answer ends is not kept, and any other answer that it is
+abbrev pub TellsEnd : {A : Type 0} → Bool → Result A HistoryFault → Type 0
+TellsEnd kept (Ok x) = kept ≡ true
+TellsEnd kept (Err faults.NoEnd) = kept ≡ false
+TellsEnd kept (Err faults.NoStart) = kept ≡ true
+TellsEnd kept (Err faults.NoMemory) = kept ≡ true
+
+-- either fault tells that the root from which an answer starts is not kept at or behind the one at which it ends
+abbrev pub TellsStart : {A : Type 0} → Bool → Result A HistoryFault → Type 0
+TellsStart kept (Ok x) = kept ≡ true
+TellsStart kept (Err faults.NoEnd) = kept ≡ false
+TellsStart kept (Err faults.NoStart) = kept ≡ false
+TellsStart kept (Err faults.NoMemory) = kept ≡ true

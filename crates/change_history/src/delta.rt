@@ -33,7 +33,7 @@ pub(crate) fn value_len(value: &Option<Vec<u8>>) -> u128
 
 impl Delta {
     /// The bytes of the key and of both values.
-    pub(crate) fn weight(&self) -> u128
+    pub fn weight(&self) -> u128
         ensures exact { result ≡ delta_weight self.now }
         ensures small { result < 2 ^ 65 }
     {

@@ -1,5 +1,6 @@
 // Which maps a history holds.
 ghost use Rattle.std.specs.Prelude.{◌≡◌, ◌≤◌, ℕ, List, length, drop, slice_get, option_map, IfSome};
+ghost use Rattle.std.specs.List.{list_any};
 ghost use Rattle.trie_model.specs.Maps.{Map, root as root_of};
 ghost use Rattle.proof_model.specs.Refusals.{first_place, same_bytes};
 ghost use Rattle.history_model.specs.Held.{is_held, back as map_back};
@@ -48,14 +49,16 @@ impl History {
 
     /// Whether the map of a root is held. It takes no memory.
     pub fn held(&self, root: &Id) -> bool
-        ensures { (w : ℕ) (maps : List Map) → Recalls w self.now maps → result ≡ is_held w (held_by self.now maps) root.now }
+        ensures roots { result ≡ list_any (same_bytes root.now) (roots self.now) }
+        ensures recalls { (w : ℕ) (maps : List Map) → Recalls w self.now maps → result ≡ is_held w (held_by self.now maps) root.now }
     {
         self.find(root, 0).is_some()
     }
 
     /// The root of the map so many commits back, where it is held. It takes no memory.
     pub fn back(&self, commits: u64) -> Option<Id>
-        ensures { (w : ℕ) (maps : List Map) → Recalls w self.now maps → result ≡ option_map (root_of w) (map_back commits (held_by self.now maps)) }
+        ensures roots { result ≡ slice_get (roots self.now) commits }
+        ensures recalls { (w : ℕ) (maps : List Map) → Recalls w self.now maps → result ≡ option_map (root_of w) (map_back commits (held_by self.now maps)) }
     {
         self.root_at(commits as usize)
     }

@@ -1,9 +1,9 @@
 // The history of a store, and how it grows.
-ghost use Rattle.std.specs.Prelude.{◌≡◌, ℕ, List, [], ◌∷◌, IfOk, option_map};
+ghost use Rattle.std.specs.Prelude.{◌≡◌, ◌<◌, ℕ, List, [], ◌∷◌, IfOk, option_map};
 ghost use Rattle.trie_model.specs.Maps.{Map, root as root_of};
-ghost use Rattle.history_model.specs.Changes.{deltas as deltas_of};
+ghost use Rattle.history_model.specs.Changes.{deltas as deltas_of, weight as weight_of};
 ghost use Rattle.history_model.specs.Held.{is_held, back as map_back};
-ghost use Rattle.change_history.specs.Histories.{no_commits, pushed, Recalls, held_by, roots};
+ghost use Rattle.change_history.specs.Histories.{no_commits, pushed, restarted, Recalls, held_by, roots};
 
 use crate::trimming::put;
 use crate::{Commit, Delta};
@@ -59,5 +59,23 @@ impl History {
         let commit = Commit::new(deltas, self.root);
         self.weight = put(&mut self.ring, self.weight, self.limit, commit);
         self.root = root;
+    }
+
+    /// One commit more, which led to a map of this root, and weighs more than all commits may. It and those before it
+    /// are let go, so that of the maps the present one alone is held, as after a push of all its deltas.
+    pub fn restart(&mut self, root: Id)
+        ensures restarted { self.new ≡ restarted self.old root }
+        ensures recalls { (w : ℕ) (m former : Map) (maps : List Map) → Recalls w self.old (former ∷ maps) → self.old.weight < weight_of former m → root ≡ root_of w m → Recalls w self.new (m ∷ former ∷ maps) }
+    {
+        self.ring.clear();
+        self.weight = 0;
+        self.root = root;
+    }
+
+    /// How much the commits may weigh together.
+    pub fn limit(&self) -> u64
+        ensures { result ≡ self.now.weight }
+    {
+        self.limit
     }
 }

@@ -1,11 +1,13 @@
 // The changes between two maps of a history.
 ghost use Rattle.std.specs.Prelude.{◌≡◌, ◌<◌, ◌≤◌, ◌+◌, ◌^◌, ℕ, List, length, map, IfOk};
+ghost use Rattle.std.specs.List.{list_any};
 ghost use Rattle.trie_model.specs.Maps.{Map};
+ghost use Rattle.proof_model.specs.Refusals.{same_bytes};
 ghost use Rattle.history_model.specs.Changes.{change_of};
 ghost use Rattle.history_model.specs.Between.{changes_between};
-ghost use Rattle.change_history.specs.Histories.{Recalls, held_by};
+ghost use Rattle.change_history.specs.Histories.{Recalls, held_by, roots, from_root};
 ghost use Rattle.change_history.specs.Nets.{nets_of};
-ghost use Rattle.change_history.specs.Told.{fits, IsTaken, AreListed, Tells};
+ghost use Rattle.change_history.specs.Told.{fits, IsTaken, AreListed, Tells, TellsEnd, TellsStart};
 
 use crate::{History, HistoryFault, Net};
 use bit_keys::{Id, Range};
@@ -82,7 +84,9 @@ impl History {
         pairs: u32,
         bytes: u32,
     ) -> Result<Taken, HistoryFault>
-        ensures { (w : ℕ) (maps : List Map) → Recalls w self.now maps → Tells pairs bytes (changes_between w (held_by self.now maps) from.now to.now range.now) result }
+        ensures held { TellsEnd (list_any (same_bytes to.now) (roots self.now)) result }
+        ensures start { TellsStart (list_any (same_bytes from.now) (from_root to.now (roots self.now))) result }
+        ensures recalls { (w : ℕ) (maps : List Map) → Recalls w self.now maps → Tells pairs bytes (changes_between w (held_by self.now maps) from.now to.now range.now) result }
     {
         let Some(later) = self.find(to, 0) else {
             return Err(HistoryFault::NoEnd);

@@ -128,6 +128,23 @@ fn a_range_and_two_numbers_bound_what_is_told(rt: HostRuntime) -> Result<(), Fai
 }
 
 #[test]
+fn a_restart_holds_the_present_map_alone(rt: HostRuntime) -> Result<(), Fail> {
+    let alloc = rt.alloc();
+    let mut history = three_commits(alloc)?;
+    history.restart(root(4));
+    for number in 0..4 {
+        assert!(rt; !history.held(&root(number)), "root {number}");
+    }
+    assert_eq!(rt; history.back(0), Some(root(4)));
+    assert_eq!(rt; history.back(1), None);
+    assert_eq!(rt; history.limit(), 268_435_456);
+    // It goes on from there.
+    history.push(deltas(alloc, &[(b"k", None, Some(b"v"))])?, root(5));
+    assert_eq!(rt; history.back(1), Some(root(4)));
+    Ok(())
+}
+
+#[test]
 fn the_65th_commit_lets_the_first_map_go(rt: HostRuntime) -> Result<(), Fail> {
     let alloc = rt.alloc();
     let mut history = History::new(alloc, 64, 268_435_456, root(0))?;

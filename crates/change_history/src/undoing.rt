@@ -1,12 +1,14 @@
 // The way back to a map of a history.
-ghost use Rattle.std.specs.Prelude.{◌≡◌, ◌≤◌, ℕ, List, length, map, IfOk};
+ghost use Rattle.std.specs.Prelude.{◌≡◌, ◌≢◌, ◌≤◌, ℕ, List, length, map, IfOk, IfErr};
+ghost use Rattle.std.specs.List.{list_any};
 ghost use Rattle.trie_model.specs.Maps.{Map};
 ghost use Rattle.range_model.specs.Ranges.{everything};
 ghost use Rattle.batch_model.specs.Batch.{after_batch};
+ghost use Rattle.proof_model.specs.Refusals.{same_bytes};
 ghost use Rattle.history_model.specs.Held.{until_root};
-ghost use Rattle.change_history.specs.Histories.{Recalls, held_by};
-ghost use Rattle.change_history.specs.Nets.{nets_of, undo_of, map_at};
-ghost use Rattle.change_history.specs.Told.{LeadsBack};
+ghost use Rattle.change_history.specs.Histories.{Recalls, held_by, roots, undo_of};
+ghost use Rattle.change_history.specs.Nets.{nets_of, map_at};
+ghost use Rattle.change_history.specs.Told.{TellsEnd, LeadsBack};
 
 use crate::{History, HistoryFault, Net};
 use bit_keys::{Id, Range};
@@ -52,7 +54,9 @@ impl History {
 
     /// The batch that leads from the present map back to the latest one of this root.
     pub fn undo_to(&self, alloc: Global, root: &Id) -> Result<Batch, HistoryFault>
-        ensures { (w : ℕ) (maps : List Map) → Recalls w self.now maps → LeadsBack (held_by self.now maps) (until_root w (held_by self.now maps) root.now) result }
+        ensures held { TellsEnd (list_any (same_bytes root.now) (roots self.now)) result }
+        ensures start { IfErr result (λ fault. fault ≢ HistoryFault.NoStart) }
+        ensures recalls { (w : ℕ) (maps : List Map) → Recalls w self.now maps → LeadsBack (held_by self.now maps) (until_root w (held_by self.now maps) root.now) result }
     {
         let Some(place) = self.find(root, 0) else {
             return Err(HistoryFault::NoEnd);
