@@ -1,5 +1,5 @@
 // Writing a batch.
-ghost use Rattle.std.specs.Prelude.{◌≡◌, ◌+◌, ◌≤◌, false, length, IfSome, IfNone, IfOk, OnOk, IfErr, IsErrOf};
+ghost use Rattle.std.specs.Prelude.{◌≡◌, ◌≢◌, ◌+◌, ◌≤◌, false, length, IfOk, OnOk, IfErr, IsErrOf};
 ghost use Rattle.base_model.specs.Faults.{Rose};
 ghost use Rattle.disk_model.specs.Moments.{LeavesOnly, Meanwhile};
 ghost use Rattle.disk_model.specs.Words.{TellsContents, TellsImages};
@@ -38,23 +38,23 @@ fn room_of(alloc: Global, batch: &Batch) -> Result<Vec<u8>, NoMemory>
 }
 
 impl ValueStore {
-    // Why a batch is not written, before any memory is taken.
-    fn refusal(&self, batch: &Batch) -> Option<ValueFault>
-        ensures none { IfNone result (Writes self.now batch.now) }
-        ensures some { IfSome result (WriteFails self.now batch.now) }
-        ensures never { IfSome result (λ fault. fault ≡ ValueFault.Disk → ⊥) }
+    /// Whether a batch may be written, or why not: what `write` tells before it takes memory or calls the disk.
+    pub fn admits(&self, batch: &Batch) -> Result<(), ValueFault>
+        ensures admitted { OnOk result (Writes self.now batch.now) }
+        ensures fault { IfErr result (WriteFails self.now batch.now) }
+        ensures never { IfErr result (λ fault. (fault ≢ ValueFault.Disk) × (fault ≢ ValueFault.NoMemory)) }
     {
         if self.journal.failed() {
-            return Some(ValueFault::Failed);
+            return Err(ValueFault::Failed);
         }
         let count = batch.payload_len();
         if count > PAYLOAD_LIMIT {
-            return Some(ValueFault::TooLarge(count));
+            return Err(ValueFault::TooLarge(count));
         }
         if len_after(&self.index, batch.changes()) > PAIRS_LIMIT {
-            return Some(ValueFault::Full);
+            return Err(ValueFault::Full);
         }
-        None
+        Ok(())
     }
 
     /// Lays a batch on the map, by one record of the journal. Once it answers Ok, no crash loses it.
@@ -83,7 +83,7 @@ impl ValueStore {
         ensures later { D.words.faults disk.old ≤ D.words.faults disk.new }
         ensures disk { IsErrOf result ValueFault.Disk → Rose (D.words.faults disk.old) (D.words.faults disk.new) }
     {
-        if let Some(fault) = self.refusal(batch) {
+        if let Err(fault) = self.admits(batch) {
             return Err(fault);
         }
         let Ok(mut room) = room_of(alloc, batch) else {

@@ -18,8 +18,8 @@ use Rattle.value_store.proofs.store.ValueStore.write.Goals as goal
 pub returns-in_default-append-clause-fails : goal.returns-in_default-append-clause-fails
 returns-in_default-append-clause-fails g c = λ e.
     let index = same_places c.cut.new.self c.self.inside.index (λ q. c.cut.ensures q ∙ c.in-Ok-add_room.ensures.back q) in
-    let failed = c.in_default-append.ensures.fails (c.in_default-append.ensures.works (ap (λ (v : ValueState). v.journal.failed) c.self.view_is ∙ c.in_default.ensures.none.may.works)
-    (omega (arith, c.deref_mut.ensures.len, c.in-Ok.ensures.long, c.in_default.ensures.none.may.fits))) in
+    let failed = c.in_default-append.ensures.fails (c.in_default-append.ensures.works (ap (λ (v : ValueState). v.journal.failed) c.self.view_is ∙ c.in_default.ensures.admitted.may.works)
+    (omega (arith, c.deref_mut.ensures.len, c.in-Ok.ensures.long, c.in_default.ensures.admitted.may.fits))) in
     ap (λ (x : Places). let v : ValueState = record { journal = c.append.new.self; index = entries x } in v) index
     ∙ ap (λ (j : JournalState). let v : ValueState = record { journal = j; index = entries c.self.inside.index } in v) failed
     ∙ ap broken c.self.view_is
@@ -34,7 +34,7 @@ returns-in_default-append-clause-meanwhile g c = λ told m keeps synced.
     let payload = ap payload_in c.deref_mut.ensures.value ∙ c.in-Ok.ensures.payload in
     let batch = c.changes-changes.ensures.batch in
     let k = subst (λ (v : ValueState). Keeps v m (w.seen c.args.disk.now)) (sym c.self.view_is) keeps in
-    let run = c.append.ensures.meanwhile told k.records (is_record cs batch room payload c.in_default.ensures.none.may.fits) k.knows synced in
+    let run = c.append.ensures.meanwhile told k.records (is_record cs batch room payload c.in_default.ensures.admitted.may.fits) k.knows synced in
     subst (λ (v : ValueState). Meanwhile (StandEither old v.journal.file m (after_batch m cs)) old new) c.self.view_is
     (either_meanwhile cs batch room payload (record { journal = c.self.inside.journal; index = entries c.self.inside.index }) m (w.seen c.args.disk.now) k old new c.self.inside.journal.file run)
 
@@ -86,7 +86,7 @@ returns-clause-contents g c = λ told m keeps.
     let payload = ap payload_in c.deref_mut.ensures.value ∙ c.in-Ok.ensures.payload in
     let batch = c.changes-changes.ensures.batch in
     let k = subst (λ (v : ValueState). Keeps v m (w.seen c.args.disk.now)) (sym c.self.view_is) keeps in
-    let knows = c.in-Ok-append.ensures.contents told k.records (is_record cs batch room payload c.in_default.ensures.none.may.fits) k.knows in
+    let knows = c.in-Ok-append.ensures.contents told k.records (is_record cs batch room payload c.in_default.ensures.admitted.may.fits) k.knows in
     let place : start ≡ c.self.inside.journal.end + 6 + length (uvarint (length cs)) = omega (arith, c.end-end.ensures.is, c.uvarint_len.ensures.exact, ap (λ l. length (uvarint (length l))) c.changes-changes.ensures.all) in
     written_keeps cs batch room payload (record { journal = c.self.inside.journal; index = entries index }) m (w.seen c.args.disk.now) k (w.seen c.append.new.disk) c.append.new.self index c.settle.new.index start refl c.self.invariant.1 knows (invariant_of-self-2 g c).1 place made
 
@@ -99,7 +99,7 @@ returns-clause-left g c = λ told m keeps synced.
     let batch = c.changes-changes.ensures.batch in
     let k = subst (λ (v : ValueState). Keeps v m (w.seen c.args.disk.now)) (sym c.self.view_is) keeps in
     leaves_after cs batch room payload (record { journal = c.self.inside.journal; index = entries c.self.inside.index }) m (w.seen c.args.disk.now) k (w.moments c.append.new.disk)
-    (c.in-Ok-append.ensures.left told k.records (is_record cs batch room payload c.in_default.ensures.none.may.fits) k.knows synced)
+    (c.in-Ok-append.ensures.left told k.records (is_record cs batch room payload c.in_default.ensures.admitted.may.fits) k.knows synced)
 
 pub returns-clause-meanwhile : goal.returns-clause-meanwhile
 returns-clause-meanwhile g c = λ told m keeps synced.
@@ -111,6 +111,6 @@ returns-clause-meanwhile g c = λ told m keeps synced.
     let payload = ap payload_in c.deref_mut.ensures.value ∙ c.in-Ok.ensures.payload in
     let batch = c.changes-changes.ensures.batch in
     let k = subst (λ (v : ValueState). Keeps v m (w.seen c.args.disk.now)) (sym c.self.view_is) keeps in
-    let run = c.append.ensures.meanwhile told k.records (is_record cs batch room payload c.in_default.ensures.none.may.fits) k.knows synced in
+    let run = c.append.ensures.meanwhile told k.records (is_record cs batch room payload c.in_default.ensures.admitted.may.fits) k.knows synced in
     subst (λ (v : ValueState). Meanwhile (StandEither old v.journal.file m (after_batch m cs)) old new) c.self.view_is
     (either_meanwhile cs batch room payload (record { journal = c.self.inside.journal; index = entries c.self.inside.index }) m (w.seen c.args.disk.now) k old new c.self.inside.journal.file run)
