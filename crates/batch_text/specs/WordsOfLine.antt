@@ -36,3 +36,7 @@ AreFourWords (Some (a, b, c, d)) line = words_of line ≡ a.now ∷ b.now ∷ c.
 abbrev pub AreFiveWords : Option (Bor (List ℕ) × Bor (List ℕ) × Bor (List ℕ) × Bor (List ℕ) × Bor (List ℕ)) → List ℕ → Type 0
 AreFiveWords None line = length (words_of line) ≢ 5
 AreFiveWords (Some (a, b, c, d, e)) line = words_of line ≡ a.now ∷ b.now ∷ c.now ∷ d.now ∷ e.now ∷ []
+
+abbrev pub AreSixWords : Option (Bor (List ℕ) × Bor (List ℕ) × Bor (List ℕ) × Bor (List ℕ) × Bor (List ℕ) × Bor (List ℕ)) → List ℕ → Type 0
+AreSixWords None line = length (words_of line) ≢ 6
+AreSixWords (Some (a, b, c, d, e, f)) line = words_of line ≡ a.now ∷ b.now ∷ c.now ∷ d.now ∷ e.now ∷ f.now ∷ []

@@ -1,6 +1,6 @@
 // What a line asks for, read from its bytes.
 ghost use Rattle.std.specs.Prelude.{◌≡◌, ℕ, IfOk, IfErr, Ok};
-ghost use Rattle.text_model.specs.ReadLine.{Line as LineOf, one_word as words_of_one, two_words as words_of_two, three_words as words_of_three, four_words as words_of_four, five_words as words_of_five, put_line, del_line, number_line, place_line, get_line, prove_line, point_line, range_line, verify_range_line, commit_words, script_words, verify_words, line_of_words, read_line as line_of};
+ghost use Rattle.text_model.specs.ReadLine.{Line as LineOf, one_word as words_of_one, two_words as words_of_two, three_words as words_of_three, four_words as words_of_four, five_words as words_of_five, six_words as words_of_six, put_line, del_line, number_line, place_line, get_line, prove_line, point_line, range_line, changes_line, verify_range_line, commit_words, script_words, verify_words, line_of_words, read_line as line_of};
 ghost use Rattle.std.specs.Option.{ok_or};
 ghost use Rattle.text_model.specs.LineKind.{Bounds};
 ghost use Rattle.text_model.specs.Words.{PlaceWord as PlaceOf, words_of, range_between};
@@ -10,7 +10,7 @@ use crate::hex_words::{read_hex, read_key, read_value};
 use crate::number_words::{PlaceWord, read_bytes_word, read_number, read_pairs_word, read_place};
 use crate::range_words::{BoundWord, RangeWord, read_bound};
 use crate::root_words::{RootWord, read_plain_root, read_root};
-use crate::words::{five_words, four_words, next_word, only_word, two_words};
+use crate::words::{five_words, four_words, next_word, only_word, six_words, two_words};
 use bit_keys::{Id, Range};
 use smallvec::SmallVec;
 use std::alloc::Global;
@@ -27,7 +27,7 @@ pub enum InputKind {
     /// `put KEY VALUE` and `del KEY`.
     Batch,
     /// These, `commit`, `view PLACE`, `take NUMBER`, `close NUMBER`, `state NUMBER`, `get PLACE KEY`, `root PLACE`,
-    /// `prove ROOT KEY` and `range ROOT START END PAIRS BYTES`.
+    /// `prove ROOT KEY`, `range ROOT START END PAIRS BYTES` and `changes FROM TO START END PAIRS BYTES`.
     Script,
     /// `point ROOT KEY HEX` and `range ROOT START END HEX`.
     Verify,
@@ -126,6 +126,15 @@ pub enum Line {
     /// The proof of a range, in the map that a root names, with so many pairs and so many bytes of them at most.
     RangeOf {
         root: RootWord,
+        range: Range,
+        pairs: u32,
+        bytes: u32,
+    },
+    /// The proof of what changed in a range from the map of one root to that of another, with so many changes and so
+    /// many bytes of them at most.
+    ChangesOf {
+        from: RootWord,
+        to: RootWord,
         range: Range,
         pairs: u32,
         bytes: u32,
@@ -248,6 +257,9 @@ fn read_script(alloc: Global, command: &[u8], rest: &[u8]) -> Result<Line, LineK
     if command == b"range".as_slice() {
         return read_range(alloc, rest);
     }
+    if command == b"changes".as_slice() {
+        return read_changes(alloc, rest);
+    }
     Err(LineKind::Word)
 }
 
@@ -337,6 +349,29 @@ fn read_range(alloc: Global, rest: &[u8]) -> Result<Line, LineKind>
         range,
         pairs,
         bytes,
+    })
+}
+
+// What follows `changes` in a script.
+fn read_changes(alloc: Global, rest: &[u8]) -> Result<Line, LineKind>
+    ensures { IsRead seen_line result (words_of_six changes_line (words_of rest.now)) }
+{
+    let Some((from, to, start, end, pairs, bytes)) = six_words(rest) else {
+        return Err(LineKind::Count);
+    };
+    let from = read_root(from)?;
+    let to = read_root(to)?;
+    let start = read_bound(start)?;
+    let end = read_bound(end)?;
+    let pairs = read_pairs_word(pairs).ok_or(LineKind::Number)?;
+    let size = read_bytes_word(bytes).ok_or(LineKind::Number)?;
+    let range = read_between(alloc, start, end)?;
+    Ok(Line::ChangesOf {
+        from,
+        to,
+        range,
+        pairs,
+        bytes: size,
     })
 }
 

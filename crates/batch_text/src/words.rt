@@ -1,7 +1,7 @@
 // The words at the front of a line.
 ghost use Rattle.std.specs.Prelude.{◌≡◌, ◌<◌, IfSome, IfNone, length, take, slice_index, false, true};
 ghost use Rattle.text_model.specs.Words.{is_blank};
-ghost use Rattle.batch_text.specs.WordsOfLine.{IsNextWord, IsOnlyWord, AreTwoWords, AreThreeWords, AreFourWords, AreFiveWords, AreBlanks, HasNoBlank};
+ghost use Rattle.batch_text.specs.WordsOfLine.{IsNextWord, IsOnlyWord, AreTwoWords, AreThreeWords, AreFourWords, AreFiveWords, AreSixWords, AreBlanks, HasNoBlank};
 
 use memchr::memchr2;
 
@@ -82,4 +82,13 @@ pub(crate) fn five_words(line: &[u8]) -> Option<(&[u8], &[u8], &[u8], &[u8], &[u
     let (first, rest) = next_word(line)?;
     let (second, third, fourth, fifth) = four_words(rest)?;
     Some((first, second, third, fourth, fifth))
+}
+
+/// The words of a line that has exactly six.
+pub(crate) fn six_words(line: &[u8]) -> Option<(&[u8], &[u8], &[u8], &[u8], &[u8], &[u8])>
+    ensures { AreSixWords result line.now }
+{
+    let (first, rest) = next_word(line)?;
+    let (second, third, fourth, fifth, sixth) = five_words(rest)?;
+    Some((first, second, third, fourth, fifth, sixth))
 }

@@ -10,7 +10,7 @@ use Rattle.range_model.specs.Ranges.{Range, IsRange}
 use Rattle.text_model.specs.Lines.{is_overlong}
 use Rattle.text_model.specs.Words.{PlaceWord, RootWord, words_of, hex_word, number_word, place_word, root_word, plain_root_word, most_pairs, most_bytes, count_word, range_between}
 use Rattle.text_model.specs.LineKind.{LineKind, TooLong, Word, Hex, Number, Place, Root as NoRoot, Bounds}
-use Rattle.text_model.specs.ReadLine.{Script, Verify, Line, Skip, Put, Del, Commit, View, Take, Close, State, Get, Root, Prove, Point, RangeOf, VerifyRange, is_comment, key_word, value_word, bound_word, one_word, two_words, three_words, four_words, five_words, put_line, del_line, number_line, place_line, get_line, prove_line, point_line, range_line, verify_range_line, commit_words, script_words, line_of_words, read_line}
+use Rattle.text_model.specs.ReadLine.{Script, Verify, Line, Skip, Put, Del, Commit, View, Take, Close, State, Get, Root, Prove, Point, RangeOf, ChangesOf, VerifyRange, is_comment, key_word, value_word, bound_word, one_word, two_words, three_words, four_words, five_words, six_words, put_line, del_line, number_line, place_line, get_line, prove_line, point_line, range_line, changes_line, verify_range_line, commit_words, script_words, line_of_words, read_line}
 use Rattle.text_model.specs.Laws.{IsPointLine, IsRangeLine, IsAskedRange}
 use Rattle.text_model.proofs.WordBytes.{Has, AreBytesWithin, hex_word_bytes, key_within, value_within}
 use Rattle.text_model.proofs.RootWords.{IsId, root_id}
@@ -30,6 +30,7 @@ pub record OfScript (P : Line → Type 0) : Type 0 where
   pub root : (place : PlaceWord) → P (Root place)
   pub prove : (word : RootWord) (key : List ℕ) → P (Prove word key)
   pub range : (word : RootWord) (asked : Range) (pairs bytes : ℕ) → IsAskedRange asked pairs bytes → P (RangeOf word asked pairs bytes)
+  pub changes : (from to : RootWord) (asked : Range) (pairs bytes : ℕ) → IsAskedRange asked pairs bytes → P (ChangesOf from to asked pairs bytes)
 
 -- what is had by each line that an input of proofs may have
 pub record OfVerify (P : Line → Type 0) : Type 0 where
@@ -81,6 +82,10 @@ module _ (P : Line → Type 0) where
   of_five read h [] = tt
   of_five read h (a ∷ words) = of_four (read a) (h a) words
 
+  of_six : (read : List ℕ → List ℕ → List ℕ → List ℕ → List ℕ → List ℕ → Result Line LineKind) → ((a b c d e f : List ℕ) → IfOk (read a b c d e f) P) → (words : List (List ℕ)) → IfOk (six_words read words) P
+  of_six read h [] = tt
+  of_six read h (a ∷ words) = of_five (read a) (h a) words
+
   either : (b : Bool) (x y : Result Line LineKind) → IfOk x P → IfOk y P → IfOk (cond b x y) P
   either true x y p q = p
   either false x y p q = q
@@ -118,6 +123,15 @@ module _ (P : Line → Type 0) (h : OfScript P) where
       and_then P (IsRange limits) (ok_or (range_between a b) Bounds) _ (range_within a b ha hb) (λ asked is.
       h.range r asked n z (record { range = is; some_pairs = hn.0; few_pairs = hn.1; some_bytes = hz.0; few_bytes = hz.1 }))))))))
 
+  changed : (words : List (List ℕ)) → IfOk (six_words changes_line words) P
+  changed = of_six P changes_line (λ from to start end pairs bytes. or_none P (root_word from) NoRoot _ (λ f. or_none P (root_word to) NoRoot _ (λ t.
+      and_then P IsBound (bound_word start) _ (bound_within start) (λ a ha.
+      and_then P IsBound (bound_word end) _ (bound_within end) (λ b hb.
+      and_then P (IsCount most_pairs) (ok_or (count_word most_pairs pairs) Number) _ (count_within most_pairs pairs) (λ n hn.
+      and_then P (IsCount most_bytes) (ok_or (count_word most_bytes bytes) Number) _ (count_within most_bytes bytes) (λ z hz.
+      and_then P (IsRange limits) (ok_or (range_between a b) Bounds) _ (range_within a b ha hb) (λ asked is.
+      h.changes f t asked n z (record { range = is; some_pairs = hn.0; few_pairs = hn.1; some_bytes = hz.0; few_bytes = hz.1 })))))))))
+
   commits : (words : List (List ℕ)) → IfOk (commit_words words) P
   commits [] = h.commit
   commits (word ∷ words) = tt
@@ -132,7 +146,8 @@ module _ (P : Line → Type 0) (h : OfScript P) where
       (by_word P command (codes "get") (two_words get_line words) _ (gets words)
       (by_word P command (codes "root") (one_word (place_line Root) words) _ (places Root h.root words)
       (by_word P command (codes "prove") (two_words prove_line words) _ (proves words)
-      (by_word P command (codes "range") (five_words range_line words) (Err Word) (ranges words) tt))))))))
+      (by_word P command (codes "range") (five_words range_line words) _ (ranges words)
+      (by_word P command (codes "changes") (six_words changes_line words) (Err Word) (changed words) tt)))))))))
 
   script_by_words : (words : List (List ℕ)) → IfOk (line_of_words Script words) P
   script_by_words [] = h.skip

@@ -6,4 +6,4 @@ use Rattle.text_model.specs.WorkedTexts.{WorkedTexts}
 
 pub worked_texts : WorkedTexts
 unfolding digits encode_with
-worked_texts = (refl, refl, refl, refl, refl, refl, refl, refl, refl, refl, refl, refl, refl, refl, refl, refl, refl, refl, refl)
+worked_texts = (refl, refl, refl, refl, refl, refl, refl, refl, refl, refl, refl, refl, refl, refl, refl, refl, refl, refl, refl, refl)

@@ -9,7 +9,7 @@ use Rattle.trie_model.specs.Maps.{Map, IsMap, key_limit, limits, root}
 use Rattle.range_model.specs.Ranges.{Range, IsRange}
 use Rattle.text_model.specs.Lines.{is_overlong, lines_within}
 use Rattle.text_model.specs.LineKind.{LineKind}
-use Rattle.text_model.specs.ReadLine.{InputKind, Batch, Script, Verify, Line, Put, Del, Point, RangeOf, VerifyRange, read_line, is_line}
+use Rattle.text_model.specs.ReadLine.{InputKind, Batch, Script, Verify, Line, Put, Del, Point, RangeOf, ChangesOf, VerifyRange, read_line, is_line}
 use Rattle.text_model.specs.FirstBad.{first_bad}
 use Rattle.text_model.specs.MapOfLines.{map_of_lines}
 use Rattle.text_model.specs.Words.{RootWord, hex_word, number_word, most_pairs, most_bytes}
@@ -115,7 +115,8 @@ pub record IsRangeLine (root : List ℕ) (asked : Range) (proof : List ℕ) : Ty
 abbrev pub RangeLinesAreWithin : Type 0
 RangeLinesAreWithin = (line root : List ℕ) (asked : Range) (proof : List ℕ) → read_line Verify line ≡ Ok (VerifyRange root asked proof) → IsRangeLine root asked proof
 
--- what a line asks for of a range: a range of keys, and one pair and one byte at least, none of them more than may be asked for
+-- what a line asks for of a range, or of changes in one: a range of keys, and one pair and one byte at least, none of them more
+-- than may be asked for
 pub record IsAskedRange (asked : Range) (pairs bytes : ℕ) : Type 0 where
   pub range : IsRange limits asked
   pub some_pairs : 1 ≤ pairs
@@ -124,4 +125,6 @@ pub record IsAskedRange (asked : Range) (pairs bytes : ℕ) : Type 0 where
   pub few_bytes : bytes ≤ most_bytes
 
 abbrev pub AskedRangesAreWithin : Type 0
-AskedRangesAreWithin = (line : List ℕ) (root : RootWord) (asked : Range) (pairs bytes : ℕ) → read_line Script line ≡ Ok (RangeOf root asked pairs bytes) → IsAskedRange asked pairs bytes
+AskedRangesAreWithin =
+    ((line : List ℕ) (root : RootWord) (asked : Range) (pairs bytes : ℕ) → read_line Script line ≡ Ok (RangeOf root asked pairs bytes) → IsAskedRange asked pairs bytes)
+    × ((line : List ℕ) (from to : RootWord) (asked : Range) (pairs bytes : ℕ) → read_line Script line ≡ Ok (ChangesOf from to asked pairs bytes) → IsAskedRange asked pairs bytes)

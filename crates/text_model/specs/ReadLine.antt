@@ -13,7 +13,8 @@ use Rattle.text_model.specs.LineKind.{LineKind, TooLong, Word, Count, Hex, LongK
 pub data InputKind : Type 0 where
   -- `put KEY VALUE` and `del KEY`
   Batch : InputKind
-  -- these, `commit`, the lines on views, `prove ROOT KEY`, and `range ROOT START END PAIRS BYTES`
+  -- these, `commit`, the lines on views, `prove ROOT KEY`, `range ROOT START END PAIRS BYTES`, and
+  -- `changes FROM TO START END PAIRS BYTES`
   Script : InputKind
   -- `point ROOT KEY HEX` and `range ROOT START END HEX`
   Verify : InputKind
@@ -46,6 +47,9 @@ pub data Line : Type 0 where
   Point : List ℕ → List ℕ → List ℕ → Line
   -- the proof of a range, in the map that a root names, with so many pairs and so many bytes of them at most
   RangeOf : RootWord → Range → ℕ → ℕ → Line
+  -- the proof of what changed in a range from the map of one root to that of another, with so many changes and so many bytes of
+  -- them at most
+  ChangesOf : RootWord → RootWord → Range → ℕ → ℕ → Line
   -- whether bytes prove what every map with this root has in a range
   VerifyRange : List ℕ → Range → List ℕ → Line
 
@@ -100,6 +104,11 @@ four_words read (first ∷ words) = three_words (read first) words
 abbrev pub five_words : (List ℕ → List ℕ → List ℕ → List ℕ → List ℕ → Result Line LineKind) → List (List ℕ) → Result Line LineKind
 five_words read [] = Err Count
 five_words read (first ∷ words) = four_words (read first) words
+
+-- what follows a first word is six words
+abbrev pub six_words : (List ℕ → List ℕ → List ℕ → List ℕ → List ℕ → List ℕ → Result Line LineKind) → List (List ℕ) → Result Line LineKind
+six_words read [] = Err Count
+six_words read (first ∷ words) = five_words (read first) words
 
 -- ---- lines that change a map
 
@@ -165,6 +174,18 @@ range_line root start end pairs bytes = do
   asked ← ok_or (range_between a b) Bounds
   Ok (RangeOf r asked n z)
 
+-- two roots, the two bounds of a range, and how many changes and bytes of them
+abbrev pub changes_line : List ℕ → List ℕ → List ℕ → List ℕ → List ℕ → List ℕ → Result Line LineKind
+changes_line from to start end pairs bytes = do
+  f ← ok_or (root_word from) NoRoot
+  t ← ok_or (root_word to) NoRoot
+  a ← bound_word start
+  b ← bound_word end
+  n ← ok_or (count_word most_pairs pairs) Number
+  z ← ok_or (count_word most_bytes bytes) Number
+  asked ← ok_or (range_between a b) Bounds
+  Ok (ChangesOf f t asked n z)
+
 -- a root, the two bounds of a range, and the bytes of a proof
 abbrev pub verify_range_line : List ℕ → List ℕ → List ℕ → List ℕ → Result Line LineKind
 verify_range_line root start end proof = do
@@ -194,6 +215,7 @@ script_words command words =
     else if bytes_eq command (codes "root") then one_word (place_line Root) words
     else if bytes_eq command (codes "prove") then two_words prove_line words
     else if bytes_eq command (codes "range") then five_words range_line words
+    else if bytes_eq command (codes "changes") then six_words changes_line words
     else Err Word
 
 -- a line that changes a map, or one that is read in another way

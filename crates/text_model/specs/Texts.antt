@@ -52,6 +52,10 @@ proof_text bytes = codes "proof " ++ encode_lower bytes ++ 10 ∷ []
 abbrev pub range_text : List ℕ → List ℕ
 range_text bytes = codes "range " ++ encode_lower bytes ++ 10 ∷ []
 
+-- the line of a change proof
+abbrev pub changes_text : List ℕ → List ℕ
+changes_text bytes = codes "changes " ++ encode_lower bytes ++ 10 ∷ []
+
 -- the line of a proof that is accepted: how many pairs it shows
 abbrev pub ok_text : ℕ → List ℕ
 ok_text pairs = codes "ok " ++ decimal pairs ++ 10 ∷ []

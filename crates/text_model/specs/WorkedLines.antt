@@ -2,7 +2,7 @@
 use Rattle.std.specs.Prelude.{◌≡◌, ℕ, List, [], ◌∷◌, ◌++◌, codes, replicate, Some, None, Result, Ok, Err}
 use Rattle.range_model.specs.Ranges.{Range, everything, only}
 use Rattle.text_model.specs.LineKind.{LineKind, Word, Count, Hex, LongKey, Number, Place, Root as NoRoot, Bounds}
-use Rattle.text_model.specs.ReadLine.{Batch, Script, Verify, Line, Skip, Put, Del, Commit, View, Take, Close, State, Get, Root, Prove, Point, RangeOf, VerifyRange, read_line}
+use Rattle.text_model.specs.ReadLine.{Batch, Script, Verify, Line, Skip, Put, Del, Commit, View, Take, Close, State, Get, Root, Prove, Point, RangeOf, ChangesOf, VerifyRange, read_line}
 use Rattle.text_model.specs.Words.{Db, View as OfView, Id, Now, Empty, Back}
 
 -- a line of an input that makes a map
@@ -86,6 +86,8 @@ ScriptLines =
     × (script (codes "range now * * 1 1") ≡ Ok (RangeOf Now everything 1 1))
     × (script (codes "range ~1 0A 0a 10 1000") ≡ Ok (RangeOf (Back 1) (only (0x0a ∷ [])) 10 1000))
     × (script (codes "range empty - * 4096 2097152") ≡ Ok (RangeOf Empty (record { start = Some []; end = None }) 4096 2097152))
+    × (script (codes "changes ~2 now * * 10 1000") ≡ Ok (ChangesOf (Back 2) Now everything 10 1000))
+    × (script (codes "changes empty ~1 0A 0a 1 1") ≡ Ok (ChangesOf Empty (Back 1) (only (0x0a ∷ [])) 1 1))
     -- a bound may have one byte more than a key
     × (script (codes "range now 0a " ++ replicate 514 0x31 ++ codes " 1 1") ≡ Ok (RangeOf Now to_the_limit 1 1))
     -- the lines of an input that makes a map are lines of a script
@@ -151,6 +153,16 @@ BadScriptLines =
     × (script (codes "range now 0b 0a 1") ≡ Err Count)
     × (script (codes "range now 0b 0a 1 1 1") ≡ Err Count)
     × (read (codes "range now * * 1 1") ≡ Err Word)
+    -- so for changes, where both roots are told before the bounds
+    × (script (codes "changes now ~1 0b 0a 1 1") ≡ Err Bounds)
+    × (script (codes "changes now ~1 0b 0a 0 1") ≡ Err Number)
+    × (script (codes "changes now ~1 0b 0a 1 2097153") ≡ Err Number)
+    × (script (codes "changes now db 0 0a 1 1") ≡ Err NoRoot)
+    × (script (codes "changes db now 0 0a 1 1") ≡ Err NoRoot)
+    × (script (codes "changes now ~1 0 0a 1 1") ≡ Err Hex)
+    × (script (codes "changes now * * 1 1") ≡ Err Count)
+    × (script (codes "changes now now * * 1 1 1") ≡ Err Count)
+    × (read (codes "changes now now * * 1 1") ≡ Err Word)
     -- a script checks no proofs
     × (script (codes "point empty 6b 01") ≡ Err Word)
     × (script (codes "range empty * * 01") ≡ Err Count)

@@ -1,6 +1,6 @@
 -- Worked texts. Bytes are in hexadecimal: 30 is the digit 0.
 use Rattle.std.specs.Prelude.{◌≡◌, [], ◌∷◌, ◌++◌, codes, replicate, Some, None}
-use Rattle.text_model.specs.Texts.{commit_text, view_text, taken_text, closed_text, state_text, refused_text, value_text, proof_text, range_text, ok_text, proof_refused_text, not_held_text, no_store_text, branch_text, damaged_text}
+use Rattle.text_model.specs.Texts.{commit_text, view_text, taken_text, closed_text, state_text, refused_text, value_text, proof_text, range_text, changes_text, ok_text, proof_refused_text, not_held_text, no_store_text, branch_text, damaged_text}
 
 abbrev pub WorkedTexts : Type 0
 WorkedTexts =
@@ -17,6 +17,7 @@ WorkedTexts =
     × (value_text None ≡ codes "none\n")
     × (proof_text (0x01 ∷ 0xaf ∷ []) ≡ codes "proof 01af\n")
     × (range_text (0x01 ∷ 0xaf ∷ []) ≡ codes "range 01af\n")
+    × (changes_text (0x01 ∷ 0xaf ∷ []) ≡ codes "changes 01af\n")
     × (ok_text 0 ≡ codes "ok 0\n")
     × (proof_refused_text 12 (codes "path order 1") ≡ codes "mdb: line 12 refused, path order 1")
     × (not_held_text ≡ codes "mdb: root not held")

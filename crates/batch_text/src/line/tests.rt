@@ -2,422 +2,283 @@ use super::*;
 use std::process::Abort;
 use std::test::Fail;
 
-// What a line is to ask for.
-#[derive(Clone, Copy, Debug)]
-enum Asked<'a> {
-    Nothing,
-    Value {
-        key: &'a [u8],
-        value: &'a [u8],
-    },
-    NoValue {
-        key: &'a [u8],
-    },
-    Commit,
-    View(PlaceWord),
-    Take(u64),
-    Close(u64),
-    State(u64),
-    Get(PlaceWord, &'a [u8]),
-    Root(PlaceWord),
-    Prove(RootWord, &'a [u8]),
-    Point {
-        root: Id,
-        key: &'a [u8],
-        proof: &'a [u8],
-    },
-    Range(RootWord, Bounds<'a>, u32, u32),
-    VerifyRange(Id, Bounds<'a>, &'a [u8]),
+// What a line asks for, or the kind of its fault, as a text.
+fn told(alloc: Global, kind: InputKind, line: &[u8]) -> Result<String, Fail> {
+    let read = match read_line(alloc, line, 7, kind) {
+        Ok(read) => read,
+        Err(fault) => return Ok(format!(in alloc; "{:?}", fault.kind)?),
+    };
+    let text = match &read {
+        Line::Skip => format!(in alloc; "nothing")?,
+        Line::Put { key, value } => format!(in alloc;
+            "put {:?} {:?}",
+            key.as_slice(),
+            value.as_slice()
+        )?,
+        Line::Del { key } => format!(in alloc; "del {:?}", key.as_slice())?,
+        Line::Commit => format!(in alloc; "commit")?,
+        Line::View { place } => format!(in alloc; "view {place:?}")?,
+        Line::Take { number } => format!(in alloc; "take {number}")?,
+        Line::Close { number } => format!(in alloc; "close {number}")?,
+        Line::State { number } => format!(in alloc; "state {number}")?,
+        Line::Get { place, key } => format!(in alloc; "get {place:?} {:?}", key.as_slice())?,
+        Line::Root { place } => format!(in alloc; "root {place:?}")?,
+        Line::Prove { root, key } => format!(in alloc; "prove {root:?} {:?}", key.as_slice())?,
+        Line::Point { root, key, proof } => {
+            format!(in alloc;
+                "point {root:?} {:?} {:?}",
+                key.as_slice(),
+                proof.as_slice()
+            )?
+        }
+        Line::RangeOf {
+            root,
+            range,
+            pairs,
+            bytes,
+        } => {
+            format!(in alloc;
+                "range {root:?} {:?} {:?} {pairs} {bytes}",
+                range.start(),
+                range.end()
+            )?
+        }
+        Line::ChangesOf {
+            from,
+            to,
+            range,
+            pairs,
+            bytes,
+        } => {
+            format!(in alloc;
+                "changes {from:?} {to:?} {:?} {:?} {pairs} {bytes}",
+                range.start(),
+                range.end()
+            )?
+        }
+        Line::VerifyRange { root, range, proof } => {
+            format!(in alloc;
+                "range {root:?} {:?} {:?} {:?}",
+                range.start(),
+                range.end(),
+                proof.as_slice()
+            )?
+        }
+    };
+    Ok(text)
 }
 
-// The start and the end of a range.
-type Bounds<'a> = (Option<&'a [u8]>, Option<&'a [u8]>);
-
-fn assert_reads(
+fn assert_told(
     rt: &impl Abort,
     alloc: Global,
     kind: InputKind,
-    line: &[u8],
-    want: Result<Asked, LineKind>,
-) {
-    match (read_line(alloc, line, 7, kind), want) {
-        (Ok(Line::Skip), Ok(Asked::Nothing)) => {}
-        (Ok(Line::Commit), Ok(Asked::Commit)) => {}
-        (Ok(Line::Put { key, value }), Ok(Asked::Value { key: k, value: v })) => {
-            assert_eq!(rt; key.as_slice(), k, "key of {line:?}");
-            assert_eq!(rt; value.as_slice(), v, "value of {line:?}");
-        }
-        (Ok(Line::Del { key }), Ok(Asked::NoValue { key: k })) => {
-            assert_eq!(rt; key.as_slice(), k, "key of {line:?}");
-        }
-        (Ok(Line::Take { number }), Ok(Asked::Take(n)))
-        | (Ok(Line::Close { number }), Ok(Asked::Close(n)))
-        | (Ok(Line::State { number }), Ok(Asked::State(n))) => {
-            assert_eq!(rt; number, n, "number of {line:?}");
-        }
-        (Ok(Line::View { place }), Ok(Asked::View(p)))
-        | (Ok(Line::Root { place }), Ok(Asked::Root(p))) => {
-            assert_eq!(rt; place, p, "place of {line:?}");
-        }
-        (Ok(Line::Get { place, key }), Ok(Asked::Get(p, k))) => {
-            assert_eq!(rt; place, p, "place of {line:?}");
-            assert_eq!(rt; key.as_slice(), k, "key of {line:?}");
-        }
-        (Ok(Line::Prove { root, key }), Ok(Asked::Prove(r, k))) => {
-            assert_eq!(rt; root, r, "root of {line:?}");
-            assert_eq!(rt; key.as_slice(), k, "key of {line:?}");
-        }
-        (
-            Ok(Line::Point { root, key, proof }),
-            Ok(
-                Asked::Point {
-                    root: r,
-                    key: k,
-                    proof: p,
-                },
-            ),
-        ) => {
-            assert_eq!(rt; root, r, "root of {line:?}");
-            assert_eq!(rt; key.as_slice(), k, "key of {line:?}");
-            assert_eq!(rt; proof.as_slice(), p, "proof of {line:?}");
-        }
-        (
-            Ok(
-                Line::RangeOf {
-                    root,
-                    range,
-                    pairs,
-                    bytes,
-                },
-            ),
-            Ok(Asked::Range(r, bounds, n, z)),
-        ) => {
-            assert_eq!(rt; root, r, "root of {line:?}");
-            assert_eq!(rt; (range.start(), range.end()), bounds, "bounds of {line:?}");
-            assert_eq!(rt; (pairs, bytes), (n, z), "numbers of {line:?}");
-        }
-        (Ok(Line::VerifyRange { root, range, proof }), Ok(Asked::VerifyRange(r, bounds, p))) => {
-            assert_eq!(rt; root, r, "root of {line:?}");
-            assert_eq!(rt; (range.start(), range.end()), bounds, "bounds of {line:?}");
-            assert_eq!(rt; proof.as_slice(), p, "proof of {line:?}");
-        }
-        (Err(fault), Err(kind)) => {
-            assert_eq!(rt; fault, LineFault { line: 7, kind }, "of {line:?}");
-        }
-        (_, want) => assert!(rt; false, "{line:?} is not {want:?}"),
-    }
-}
-
-#[test]
-fn a_line_asks_for_what_its_words_say_or_has_its_first_fault(rt: HostRuntime) {
-    let alloc = rt.alloc();
-    let one = Ok(Asked::Value {
-        key: b"k",
-        value: b"v",
-    });
-    let rows: [(&[u8], Result<Asked, LineKind>); 24] = [
-        (b"", Ok(Asked::Nothing)),
-        (b" \t ", Ok(Asked::Nothing)),
-        (b"#", Ok(Asked::Nothing)),
-        (b"# put zz", Ok(Asked::Nothing)),
-        (b"put 6b 76", one),
-        (b"\t put \t6B  76 ", one),
-        (
-            b"put - -",
-            Ok(Asked::Value {
-                key: b"",
-                value: b"",
-            }),
-        ),
-        (b"del 6b7F", Ok(Asked::NoValue { key: b"k\x7f" })),
-        (b" # a", Err(LineKind::Word)),
-        (b"Put 6b 76", Err(LineKind::Word)),
-        (b"puts 6b 76", Err(LineKind::Word)),
-        (b"zz", Err(LineKind::Word)),
-        (b"put", Err(LineKind::Count)),
-        (b"put 6b", Err(LineKind::Count)),
-        (b"put zz", Err(LineKind::Count)),
-        (b"put 6b 76 # a", Err(LineKind::Count)),
-        (b"del", Err(LineKind::Count)),
-        (b"del 6b 76", Err(LineKind::Count)),
-        (b"put 6b 7", Err(LineKind::Hex)),
-        (b"put 6g 76", Err(LineKind::Hex)),
-        (b"put 0x6b 76", Err(LineKind::Hex)),
-        (b"put 6b --", Err(LineKind::Hex)),
-        (b"del 6b\r", Err(LineKind::Hex)),
-        (b"del :0", Err(LineKind::Hex)),
-    ];
+    rows: &[(&str, &str)],
+) -> Result<(), Fail> {
     for (line, want) in rows {
-        assert_reads(&rt, alloc, InputKind::Batch, line, want);
-    }
-}
-
-#[test]
-fn a_script_has_more_lines_and_no_other_input_has_them(rt: HostRuntime) {
-    let alloc = rt.alloc();
-    let one = Ok(Asked::Value {
-        key: b"k",
-        value: b"v",
-    });
-    let rows: [(&[u8], Result<Asked, LineKind>); 22] = [
-        (b"", Ok(Asked::Nothing)),
-        (b"# commit", Ok(Asked::Nothing)),
-        (b"put 6b 76", one),
-        (b"del 6b", Ok(Asked::NoValue { key: b"k" })),
-        (b"commit", Ok(Asked::Commit)),
-        (b"\t commit ", Ok(Asked::Commit)),
-        (b"view db", Ok(Asked::View(PlaceWord::Db))),
-        (b"view 1", Ok(Asked::View(PlaceWord::View(1)))),
-        (b" view\t0 ", Ok(Asked::View(PlaceWord::View(0)))),
-        (b"take 1", Ok(Asked::Take(1))),
-        (b"take 1000000", Ok(Asked::Take(1_000_000))),
-        (b"close 10", Ok(Asked::Close(10))),
-        (b"close\t2", Ok(Asked::Close(2))),
-        (b"state 3", Ok(Asked::State(3))),
-        (
-            b"state 18446744073709551615",
-            Ok(Asked::State(18_446_744_073_709_551_615)),
-        ),
-        (b"get db 6B", Ok(Asked::Get(PlaceWord::Db, b"k"))),
-        (b"get 9 -", Ok(Asked::Get(PlaceWord::View(9), b""))),
-        (
-            b"get 19 6b7f",
-            Ok(Asked::Get(PlaceWord::View(19), b"k\x7f")),
-        ),
-        (b"root db", Ok(Asked::Root(PlaceWord::Db))),
-        (b"root 7", Ok(Asked::Root(PlaceWord::View(7)))),
-        (
-            b"root 18446744073709551615",
-            Ok(Asked::Root(PlaceWord::View(18_446_744_073_709_551_615))),
-        ),
-        (b"# view", Ok(Asked::Nothing)),
-    ];
-    for (line, want) in rows {
-        assert_reads(&rt, alloc, InputKind::Script, line, want);
-    }
-    let others: [&[u8]; 7] = [
-        b"commit",
-        b"view db",
-        b"take 1",
-        b"close 1",
-        b"state 1",
-        b"get db 6b",
-        b"root db",
-    ];
-    for line in others {
-        assert_reads(&rt, alloc, InputKind::Batch, line, Err(LineKind::Word));
-    }
-}
-
-// A line that tells its first fault, of a script.
-#[test]
-fn a_line_of_a_script_has_its_first_fault(rt: HostRuntime) {
-    let alloc = rt.alloc();
-    let rows: [(&[u8], LineKind); 47] = [
-        (b"comit", LineKind::Word),
-        (b"Commit", LineKind::Word),
-        (b"commit\r", LineKind::Word),
-        (b"views db", LineKind::Word),
-        (b"db", LineKind::Word),
-        // Lines that no script has today.
-        (b"changes now now * * 1 1", LineKind::Word),
-        (b"compact", LineKind::Word),
-        (b"foo zz zz", LineKind::Word),
-        (b"put 6b", LineKind::Count),
-        (b"commit x", LineKind::Count),
-        (b"commit commit", LineKind::Count),
-        (b"view", LineKind::Count),
-        (b"view db db", LineKind::Count),
-        (b"take", LineKind::Count),
-        (b"take 1 2", LineKind::Count),
-        (b"close", LineKind::Count),
-        (b"close x y", LineKind::Count),
-        (b"state", LineKind::Count),
-        (b"state 1 1", LineKind::Count),
-        (b"get", LineKind::Count),
-        (b"get db", LineKind::Count),
-        (b"get x", LineKind::Count),
-        (b"get db 6b 76", LineKind::Count),
-        (b"root", LineKind::Count),
-        (b"root db 1", LineKind::Count),
-        (b"del 6", LineKind::Hex),
-        (b"get db 6", LineKind::Hex),
-        (b"get 1 x", LineKind::Hex),
-        (b"take x", LineKind::Number),
-        (b"take db", LineKind::Number),
-        (b"take -", LineKind::Number),
-        (b"take -1", LineKind::Number),
-        (b"take +1", LineKind::Number),
-        (b"take 00", LineKind::Number),
-        (b"take 01", LineKind::Number),
-        (b"close 1f", LineKind::Number),
-        (b"close 0x1", LineKind::Number),
-        (b"close 1\r", LineKind::Number),
-        (b"state 18446744073709551616", LineKind::Number),
-        (b"state 100000000000000000000", LineKind::Number),
-        (b"state \xff", LineKind::Number),
-        (b"view DB", LineKind::Place),
-        (b"view d", LineKind::Place),
-        (b"view dbx", LineKind::Place),
-        (b"root 007", LineKind::Place),
-        (b"root 18446744073709551616", LineKind::Place),
-        (b"get x 6", LineKind::Place),
-    ];
-    for (line, kind) in rows {
-        assert_reads(&rt, alloc, InputKind::Script, line, Err(kind));
-    }
-}
-
-// 64 digits, and the bytes that they stand for.
-const DIGITS: [u8; 64] = *b"00112233445566778899AAbbCCddEEff00112233445566778899aabbccddeeff";
-
-const ROOT: Id = [
-    0x00, 0x11, 0x22, 0x33, 0x44, 0x55, 0x66, 0x77, 0x88, 0x99, 0xaa, 0xbb, 0xcc, 0xdd, 0xee, 0xff,
-    0x00, 0x11, 0x22, 0x33, 0x44, 0x55, 0x66, 0x77, 0x88, 0x99, 0xaa, 0xbb, 0xcc, 0xdd, 0xee, 0xff,
-];
-
-#[test]
-fn a_root_is_an_id_or_the_name_of_a_map_that_is_there(rt: HostRuntime) -> Result<(), Fail> {
-    let alloc = rt.alloc();
-    let proved = Ok(Asked::Prove(RootWord::Id(ROOT), b"k"));
-    let point = Ok(Asked::Point {
-        root: ROOT,
-        key: b"k",
-        proof: b"\x01\x04",
-    });
-    // What stands before the digits and behind them, and how many there are.
-    let rows: [(InputKind, &[u8], usize, &[u8], Result<Asked, LineKind>); 9] = [
-        (InputKind::Script, b"prove ", 64, b" 6b", proved),
-        (
-            InputKind::Script,
-            b"prove ",
-            63,
-            b" 6b",
-            Err(LineKind::Root),
-        ),
-        (
-            InputKind::Script,
-            b"prove ",
-            63,
-            b"g 6b",
-            Err(LineKind::Root),
-        ),
-        (
-            InputKind::Script,
-            b"prove ",
-            64,
-            b"00 6b",
-            Err(LineKind::Root),
-        ),
-        (InputKind::Script, b"prove ", 64, b" 6", Err(LineKind::Hex)),
-        (InputKind::Verify, b"point ", 64, b" 6B 0104", point),
-        (
-            InputKind::Verify,
-            b"point ",
-            62,
-            b" 6b 0104",
-            Err(LineKind::Root),
-        ),
-        (
-            InputKind::Verify,
-            b"point ",
-            64,
-            b" 6b 010",
-            Err(LineKind::Hex),
-        ),
-        (InputKind::Batch, b"prove ", 64, b" 6b", Err(LineKind::Word)),
-    ];
-    for (kind, before, count, after, want) in rows {
-        let mut line = Vec::from_slice(alloc, before)?;
-        line.extend_from_slice(&DIGITS[..count])?;
-        line.extend_from_slice(after)?;
-        assert_reads(&rt, alloc, kind, &line, want);
+        let text = told(alloc, kind, line.as_bytes())?;
+        assert_eq!(rt; text.as_str(), *want, "of {line:?}");
     }
     Ok(())
 }
 
-#[test]
-fn an_input_of_proofs_has_no_lines_but_proofs(rt: HostRuntime) {
-    let alloc = rt.alloc();
-    let empty = Ok(Asked::Point {
-        root: [0; 32],
-        key: b"",
-        proof: b"\x01",
-    });
-    let rows: [(&[u8], Result<Asked, LineKind>); 12] = [
-        (b" point\tempty - 01 ", empty),
-        (b"# point", Ok(Asked::Nothing)),
-        (b"", Ok(Asked::Nothing)),
-        (b"point now 6b 01", Err(LineKind::Root)),
-        (b"point ~0 6b 01", Err(LineKind::Root)),
-        (b"point Empty 6 0", Err(LineKind::Root)),
-        (b"point empty 6 0", Err(LineKind::Hex)),
-        (b"point empty 6b 0", Err(LineKind::Hex)),
-        (b"point empty 6b", Err(LineKind::Count)),
-        (b"point empty 6b 01 01", Err(LineKind::Count)),
-        (b"put 6b 76", Err(LineKind::Word)),
-        (b"commit", Err(LineKind::Word)),
-    ];
-    for (line, want) in rows {
-        assert_reads(&rt, alloc, InputKind::Verify, line, want);
-    }
-    let named: [(&[u8], Result<Asked, LineKind>); 7] = [
-        (b"prove now 6b", Ok(Asked::Prove(RootWord::Now, b"k"))),
-        (b"prove empty 6b", Ok(Asked::Prove(RootWord::Empty, b"k"))),
-        (b"prove ~0 -", Ok(Asked::Prove(RootWord::Back(0), b""))),
-        (b"prove ~64 6b", Ok(Asked::Prove(RootWord::Back(64), b"k"))),
-        (b"prove ~ 6b", Err(LineKind::Root)),
-        (b"prove ~01 6b", Err(LineKind::Root)),
-        (b"point empty - 01", Err(LineKind::Word)),
-    ];
-    for (line, want) in named {
-        assert_reads(&rt, alloc, InputKind::Script, line, want);
-    }
-}
+// Lines of a batch, with what is told of them: what they ask for, or the first fault.
+const BATCH: [(&str, &str); 33] = [
+    ("", "nothing"),
+    (" \t ", "nothing"),
+    ("#", "nothing"),
+    ("# put zz", "nothing"),
+    ("put 6b 76", "put [107] [118]"),
+    ("\t put \t6B  76 ", "put [107] [118]"),
+    ("put - -", "put [] []"),
+    ("del 6b7F", "del [107, 127]"),
+    (" # a", "Word"),
+    ("Put 6b 76", "Word"),
+    ("puts 6b 76", "Word"),
+    ("zz", "Word"),
+    ("put", "Count"),
+    ("put zz", "Count"),
+    ("put 6b 76 # a", "Count"),
+    ("del", "Count"),
+    ("del 6b 76", "Count"),
+    ("put 6b 7", "Hex"),
+    ("put 6g 76", "Hex"),
+    ("put 0x6b 76", "Hex"),
+    ("put 6b --", "Hex"),
+    ("del 6b\r", "Hex"),
+    ("del :0", "Hex"),
+    ("commit", "Word"),
+    ("view db", "Word"),
+    ("take 1", "Word"),
+    ("close 1", "Word"),
+    ("state 1", "Word"),
+    ("get db 6b", "Word"),
+    ("root db", "Word"),
+    ("prove now 6b", "Word"),
+    ("range now * * 1 1", "Word"),
+    ("point empty - 01", "Word"),
+];
+
+// Lines of a script.
+const SCRIPT: [(&str, &str); 87] = [
+    ("# commit", "nothing"),
+    ("put 6b 76", "put [107] [118]"),
+    ("del 6b", "del [107]"),
+    ("commit", "commit"),
+    ("\t commit ", "commit"),
+    ("view db", "view Db"),
+    ("view 1", "view View(1)"),
+    (" view\t0 ", "view View(0)"),
+    ("take 1000000", "take 1000000"),
+    ("close\t2", "close 2"),
+    ("state 18446744073709551615", "state 18446744073709551615"),
+    ("get db 6B", "get Db [107]"),
+    ("get 9 -", "get View(9) []"),
+    ("root db", "root Db"),
+    (
+        "root 18446744073709551615",
+        "root View(18446744073709551615)",
+    ),
+    (
+        "prove 00112233445566778899AAbbCCddEEff00112233445566778899aabbccddeeff 6b",
+        "prove Id([0, 17, 34, 51, 68, 85, 102, 119, 136, 153, 170, 187, 204, 221, 238, 255, 0, 17, 34, 51, 68, 85, 102, 119, 136, 153, 170, 187, 204, 221, 238, 255]) [107]",
+    ),
+    ("prove now 6b", "prove Now [107]"),
+    ("prove empty 6b", "prove Empty [107]"),
+    ("prove ~0 -", "prove Back(0) []"),
+    ("prove ~64 6b", "prove Back(64) [107]"),
+    ("range now * * 1 1", "range Now None None 1 1"),
+    (
+        "changes ~2 now * 0A 10 1000",
+        "changes Back(2) Now None Some([10]) 10 1000",
+    ),
+    (
+        "range ~1 0A 0a 4096 2097152",
+        "range Back(1) Some([10]) Some([10]) 4096 2097152",
+    ),
+    ("comit", "Word"),
+    ("Commit", "Word"),
+    ("commit\r", "Word"),
+    ("views db", "Word"),
+    ("db", "Word"),
+    ("compact", "Word"),
+    ("foo zz zz", "Word"),
+    ("point empty - 01", "Word"),
+    ("put 6b", "Count"),
+    ("commit x", "Count"),
+    ("view", "Count"),
+    ("view db db", "Count"),
+    ("take", "Count"),
+    ("take 1 2", "Count"),
+    ("close x y", "Count"),
+    ("state 1 1", "Count"),
+    ("get x", "Count"),
+    ("get db 6b 76", "Count"),
+    ("root", "Count"),
+    ("root db 1", "Count"),
+    ("range now * * 1", "Count"),
+    ("changes now * * 1 1", "Count"),
+    ("changes now now * * 1 1 1", "Count"),
+    ("range now * * 1 1 1", "Count"),
+    ("del 6", "Hex"),
+    ("get db 6", "Hex"),
+    ("get 1 x", "Hex"),
+    (
+        "prove 00112233445566778899AAbbCCddEEff00112233445566778899aabbccddeeff 6",
+        "Hex",
+    ),
+    ("range now ** 0 1 1", "Hex"),
+    ("range now * 0 1 1", "Hex"),
+    ("take x", "Number"),
+    ("take db", "Number"),
+    ("take -", "Number"),
+    ("take -1", "Number"),
+    ("take +1", "Number"),
+    ("take 00", "Number"),
+    ("take 01", "Number"),
+    ("close 1f", "Number"),
+    ("close 0x1", "Number"),
+    ("close 1\r", "Number"),
+    ("state 18446744073709551616", "Number"),
+    ("state 100000000000000000000", "Number"),
+    ("state é", "Number"),
+    ("range now 0b 0a 0 1", "Number"),
+    ("range now 0b 0a 1 0", "Number"),
+    ("range now * * 4097 1", "Number"),
+    ("range now * * 1 2097153", "Number"),
+    ("range now * * 01 1", "Number"),
+    ("view DB", "Place"),
+    ("view d", "Place"),
+    ("view dbx", "Place"),
+    ("root 007", "Place"),
+    ("root 18446744073709551616", "Place"),
+    ("get x 6", "Place"),
+    (
+        "prove 00112233445566778899AAbbCCddEEff00112233445566778899aabbccddeef 6b",
+        "Root",
+    ),
+    (
+        "prove 00112233445566778899AAbbCCddEEff00112233445566778899aabbccddeefg 6b",
+        "Root",
+    ),
+    (
+        "prove 00112233445566778899AAbbCCddEEff00112233445566778899aabbccddeeff00 6b",
+        "Root",
+    ),
+    ("prove ~ 6b", "Root"),
+    ("prove ~01 6b", "Root"),
+    ("range db 0 0 0 0", "Root"),
+    ("changes now db 0 0 0 0", "Root"),
+    ("changes now ~1 0b 0a 1 1", "Bounds"),
+    ("range now 0b 0a 1 1", "Bounds"),
+    ("range now 0a00 0a 1 1", "Bounds"),
+];
+
+// Lines of an input of proofs.
+const VERIFY: [(&str, &str); 21] = [
+    (
+        " point\tempty - 01 ",
+        "point [0, 0, 0, 0, 0, 0, 0, 0, 0, 0, 0, 0, 0, 0, 0, 0, 0, 0, 0, 0, 0, 0, 0, 0, 0, 0, 0, 0, 0, 0, 0, 0] [] [1]",
+    ),
+    (
+        "point 00112233445566778899AAbbCCddEEff00112233445566778899aabbccddeeff 6B 0104",
+        "point [0, 17, 34, 51, 68, 85, 102, 119, 136, 153, 170, 187, 204, 221, 238, 255, 0, 17, 34, 51, 68, 85, 102, 119, 136, 153, 170, 187, 204, 221, 238, 255] [107] [1, 4]",
+    ),
+    ("# point", "nothing"),
+    ("", "nothing"),
+    (
+        "range empty - * 0101",
+        "range [0, 0, 0, 0, 0, 0, 0, 0, 0, 0, 0, 0, 0, 0, 0, 0, 0, 0, 0, 0, 0, 0, 0, 0, 0, 0, 0, 0, 0, 0, 0, 0] Some([]) None [1, 1]",
+    ),
+    (
+        "range empty * 0a -",
+        "range [0, 0, 0, 0, 0, 0, 0, 0, 0, 0, 0, 0, 0, 0, 0, 0, 0, 0, 0, 0, 0, 0, 0, 0, 0, 0, 0, 0, 0, 0, 0, 0] None Some([10]) []",
+    ),
+    ("point now 6b 01", "Root"),
+    ("point ~0 6b 01", "Root"),
+    ("point Empty 6 0", "Root"),
+    (
+        "point 00112233445566778899AAbbCCddEEff00112233445566778899aabbccddee 6b 0104",
+        "Root",
+    ),
+    ("point empty 6 0", "Hex"),
+    ("point empty 6b 0", "Hex"),
+    ("point empty 6b", "Count"),
+    ("point empty 6b 01 01", "Count"),
+    ("put 6b 76", "Word"),
+    ("commit", "Word"),
+    ("range empty 0b 0a 01", "Bounds"),
+    ("range empty 0b 0a 0", "Hex"),
+    ("range now * * 01", "Root"),
+    ("range empty * *", "Count"),
+    ("range empty * * 1 1", "Count"),
+];
 
 #[test]
-fn a_range_ends_at_or_above_its_start_and_asks_within_limits(rt: HostRuntime) {
+fn a_line_asks_for_what_its_words_say_or_has_its_first_fault(rt: HostRuntime) -> Result<(), Fail> {
     let alloc = rt.alloc();
-    let all = Ok(Asked::Range(RootWord::Now, (None, None), 1, 1));
-    let one = Ok(Asked::Range(
-        RootWord::Back(1),
-        (Some(b"\n"), Some(b"\n")),
-        4_096,
-        2_097_152,
-    ));
-    let rows: [(&[u8], Result<Asked, LineKind>); 14] = [
-        (b"range now * * 1 1", all),
-        (b"range ~1 0A 0a 4096 2097152", one),
-        (b"range now 0b 0a 1 1", Err(LineKind::Bounds)),
-        (b"range now 0a00 0a 1 1", Err(LineKind::Bounds)),
-        (b"range now 0b 0a 0 1", Err(LineKind::Number)),
-        (b"range now 0b 0a 1 0", Err(LineKind::Number)),
-        (b"range now * * 4097 1", Err(LineKind::Number)),
-        (b"range now * * 1 2097153", Err(LineKind::Number)),
-        (b"range now * * 01 1", Err(LineKind::Number)),
-        (b"range now ** 0 1 1", Err(LineKind::Hex)),
-        (b"range now * 0 1 1", Err(LineKind::Hex)),
-        (b"range db 0 0 0 0", Err(LineKind::Root)),
-        (b"range now * * 1", Err(LineKind::Count)),
-        (b"range now * * 1 1 1", Err(LineKind::Count)),
-    ];
-    for (line, want) in rows {
-        assert_reads(&rt, alloc, InputKind::Script, line, want);
-    }
-    let from = Ok(Asked::VerifyRange([0; 32], (Some(b""), None), b"\x01\x01"));
-    let up_to = Ok(Asked::VerifyRange([0; 32], (None, Some(b"\n")), b""));
-    let checked: [(&[u8], Result<Asked, LineKind>); 7] = [
-        (b"range empty - * 0101", from),
-        (b"range empty * 0a -", up_to),
-        (b"range empty 0b 0a 01", Err(LineKind::Bounds)),
-        (b"range empty 0b 0a 0", Err(LineKind::Hex)),
-        (b"range now * * 01", Err(LineKind::Root)),
-        (b"range empty * *", Err(LineKind::Count)),
-        (b"range empty * * 1 1", Err(LineKind::Count)),
-    ];
-    for (line, want) in checked {
-        assert_reads(&rt, alloc, InputKind::Verify, line, want);
-    }
+    assert_told(&rt, alloc, InputKind::Batch, &BATCH)?;
+    assert_told(&rt, alloc, InputKind::Script, &SCRIPT)?;
+    assert_told(&rt, alloc, InputKind::Verify, &VERIFY)
 }
 
 // Digits between what stands before and after them, and the kind that is told of such a line.
