@@ -1,6 +1,7 @@
 pub mod Playing
 pub mod Outcomes
 pub mod MapsOfScripts
+pub mod HeldMaps
 pub mod Pending
 pub mod Acknowledged
 pub mod Deciding

@@ -6,16 +6,16 @@ use Rattle.std.specs.FinMap as map_of
 use Rattle.trie_model.specs.Maps.{Map, limits, root}
 use Rattle.batch_model.specs.Batch.{IsChange, after_batch}
 use Rattle.text_model.specs.LineKind.{LineKind}
-use Rattle.text_model.specs.ReadLine.{Line, Skip, Put, Del, Commit, View, Take, Close, State, Get, Root, Prove, Point, RangeOf, VerifyRange, Script, read_line}
-use Rattle.text_model.specs.Texts.{LimitKind, Pairs, Batch, closed_text, value_text, root_text, proof_text, range_text}
+use Rattle.text_model.specs.ReadLine.{Line, Skip, Put, Del, Commit, View, Take, Close, State, Get, Root, Prove, Point, RangeOf, ChangesOf, VerifyRange, Script, read_line}
+use Rattle.text_model.specs.Texts.{LimitKind, Pairs, Batch, closed_text, value_text, root_text, proof_text, range_text, changes_text}
 use Rattle.text_model.specs.Words.{PlaceWord}
 use Rattle.text_model.proofs.EachLine.{OfScript, of_script}
 use Rattle.view_model.specs.Calls.{Refusal, number_limit, view_refused, parent_refused, make_refused, closed}
 use Rattle.view_model.specs.Forest.{ViewState, state, payload}
 use Rattle.session_model.specs.Limits.{pairs_limit, payload_limit}
 use Rattle.session_model.specs.Refusals.{cause_words, take_refused}
-use Rattle.session_model.specs.Named.{proved, range_proved, not_held}
-use Rattle.session_model.specs.Session.{Session, Step, quiet, prints, refuses, pend, committed, commit_step, commit, view_at, map_at, viewed, view_step, view_unless, view, taken, taken_map, take_step, take_unless, take as take_view, close_unless, close, told_state, told_unless, told, told_proof, told_range, line_step, or_limit, read_step, step}
+use Rattle.session_model.specs.Named.{proved, range_proved, changes_proved, not_held}
+use Rattle.session_model.specs.Session.{Session, Step, quiet, prints, refuses, pend, committed, commit_step, commit, view_at, map_at, viewed, view_step, view_unless, view, taken, taken_map, take_step, take_unless, take as take_view, close_unless, close, told_state, told_unless, told, told_proof, told_range, told_changes, line_step, or_limit, read_step, step}
 
 -- ---- what lines ask for
 
@@ -44,6 +44,7 @@ each_asks = record {
   root = λ place. tt;
   prove = λ word key. tt;
   range = λ word asked pairs bytes h. tt;
+  changes = λ from to asked pairs bytes h. tt;
 }
 
 lines_ask : (line : List ℕ) → IfOk (read_line Script line) Asks
@@ -122,6 +123,10 @@ module _ (P : Session × Step → Type 0) (w : ℕ) (s : Session) (h : Holds P w
   of_range None = h.still (refuses not_held) refl
   of_range (Some bytes) = h.still (prints (range_text bytes)) refl
 
+  of_changes : (found : Option (List ℕ)) → P (s, told_changes found)
+  of_changes None = h.still (refuses not_held) refl
+  of_changes (Some bytes) = h.still (prints (changes_text bytes)) refl
+
   of_line : (line : Line) → Asks line → IfOk (line_step w s line) P
   of_line Skip asks = h.still quiet refl
   of_line (Put key value) asks = h.pends key (Some value) asks
@@ -133,9 +138,10 @@ module _ (P : Session × Step → Type 0) (w : ℕ) (s : Session) (h : Holds P w
   of_line (State n) asks = of_state n
   of_line (Get place key) asks = of_told place (λ m. value_text (map_of.get m key))
   of_line (Root place) asks = of_told place (λ m. root_text (root w m))
-  of_line (Prove word key) asks = of_proof (proved w s.map word key)
+  of_line (Prove word key) asks = of_proof (proved w s.holding.maps word key)
   of_line (Point root key proof) asks = h.still quiet refl
-  of_line (RangeOf word asked pairs bytes) asks = of_range (range_proved w s.map word asked pairs bytes)
+  of_line (RangeOf word asked pairs bytes) asks = of_range (range_proved w s.holding.maps word asked pairs bytes)
+  of_line (ChangesOf from to asked pairs bytes) asks = of_changes (changes_proved w s.holding.maps from to asked pairs bytes)
   of_line (VerifyRange root asked proof) asks = h.still quiet refl
 
   of_read : (n : ℕ) (read : Result Line LineKind) → IfOk read Asks → IfOk (read_step w n s read) P

@@ -31,7 +31,7 @@ use Rattle.session_model.specs.Named.{proof_of, range_proof_of, not_held}
 use Rattle.session_model.specs.Session.{Session, Step, prints, refuses, told_range, start, committed, commit_step, commit, or_limit, taken, taken_map, take_step, read_step, step}
 use Rattle.session_model.specs.Script.{Played, play, and_then, ended}
 use Rattle.session_model.specs.Worked.{WorkedScripts, ViewScripts, ClosedLines, RefusedLines, ProvedLines, RangedLines, no_proof, no_range, maybe_text, with, one_pair, a, root_of}
-use Rattle.session_model.proofs.NamedMaps.{by_zeros}
+use Rattle.session_model.proofs.NamedMaps.{itself, by_zeros}
 use Rattle.session_model.proofs.Playing.{put_first, followed, play-done, play-on}
 
 -- ---- maps of so few pairs are within the limit
@@ -207,8 +207,8 @@ two_proofs a b = proof_text a ∷ proof_text b ∷ codes "refused not held\n" �
 pub proved_lines : ProvedLines
 unfolding decode_pairs uvarint two_proofs
 proved_lines = (
-  ap (λ a. two_proofs a (proof_of 4 [] no_map)) (empty_proof (0x6b ∷ [])) ∙ ap (two_proofs no_proof) (empty_proof []),
-  rw small_pair (ap (λ a. proof_text a ∷ commit_text 1 (root_of one_pair) ∷ []) (empty_proof (0x6b ∷ []))),
+  rw (itself (root_of no_map)) (ap (λ a. two_proofs a (proof_of 4 [] no_map)) (empty_proof (0x6b ∷ [])) ∙ ap (two_proofs no_proof) (empty_proof [])),
+  rw (itself (root_of no_map), small_pair) (ap (λ a. proof_text a ∷ commit_text 1 (root_of one_pair) ∷ []) (empty_proof (0x6b ∷ []))),
 )
 
 -- ---- range proofs
@@ -235,6 +235,6 @@ three_ranges a = range_text a ∷ range_text a ∷ range_text a ∷ codes "refus
 pub ranged_lines : RangedLines
 unfolding decode_pairs uvarint under_names three_ranges
 ranged_lines = (
-  ap under_names by_zeros ∙ ap three_ranges empty_range,
-  rw small_pair (ap (λ a. range_text a ∷ commit_text 1 (root_of one_pair) ∷ []) empty_range),
+  rw (itself (root_of no_map)) (ap under_names by_zeros ∙ ap three_ranges empty_range),
+  rw (itself (root_of no_map), small_pair) (ap (λ a. range_text a ∷ commit_text 1 (root_of one_pair) ∷ []) empty_range),
 )

@@ -1,11 +1,16 @@
 -- What the words on scripts say of each other.
-use Rattle.std.specs.Prelude.{◌≡◌, ℕ, ◌≤◌, List, [], ◌∷◌, ◌++◌, length, take, true, Some, None}
+use Rattle.std.specs.Prelude.{◌≡◌, ℕ, ◌≤◌, List, [], ◌∷◌, ◌++◌, length, take, true, Option, Some, None, Result, Ok, Err, reverse}
 use Rattle.trie_model.specs.Maps.{Map, root}
 use Rattle.batch_model.specs.Batch.{Change, after_batch}
 use Rattle.text_model.specs.Texts.{view_text, root_text, taken_text}
 use Rattle.text_model.specs.Words.{PlaceWord, View as OfView}
+use Rattle.range_model.specs.Ranges.{Range}
+use Rattle.history_model.specs.Changes.{changes}
+use Rattle.history_model.specs.Between.{ChangesRefusal, changes_between}
+use Rattle.history_model.specs.Held.{commit_limit, weight_limit, held}
 use Rattle.view_model.specs.Forest.{Live, state, next_number}
 use Rattle.view_model.specs.Calls.{make_refused, is_next}
+use Rattle.session_model.specs.Named.{between}
 use Rattle.session_model.specs.Session.{Stop, start, prints, view_at, map_at, viewed, view_step, take_step, told}
 use Rattle.session_model.specs.Script.{play, script, decided, text_of, batches_of, after_steps, acknowledged, session}
 
@@ -16,6 +21,19 @@ StepsMakeTheMap = (w : ℕ) (m : Map) (bytes : List ℕ) → (script w m bytes).
 -- and it is the last of the maps of the session
 abbrev pub MapsEndThere : Type 0
 MapsEndThere = (w : ℕ) (m : Map) (g : ℕ) (bytes : List ℕ) → (earlier : List Map) × ((session w m g bytes).maps ≡ earlier ++ (script w m bytes).session.map ∷ [])
+
+-- the maps that it holds at its end are those that are held of all maps of the session, of which the last stands first
+abbrev pub HeldOfAllMaps : Type 0
+HeldOfAllMaps = (w : ℕ) (m : Map) (g : ℕ) (bytes : List ℕ) → (script w m bytes).session.holding.maps ≡ held commit_limit weight_limit (reverse (session w m g bytes).maps)
+
+-- what is told of the changes between two roots
+abbrev pub AreTold : Option (Map × Map) → Range → Result (List Change) ChangesRefusal → Type 0
+AreTold None asked told = (why : ChangesRefusal) × (told ≡ Err why)
+AreTold (Some ms) asked told = told ≡ Ok (changes ms.0 ms.1 asked)
+
+-- the two maps that are named where changes are told are those between which a history tells them
+abbrev pub ChangesAreNamed : Type 0
+ChangesAreNamed = (w : ℕ) (maps : List Map) (from to : List ℕ) (asked : Range) → AreTold (between w maps from to) asked (changes_between w maps from to asked)
 
 -- what the first bytes of an input decide, the whole input does not change
 abbrev pub DecidedStops : Type 0

@@ -4,19 +4,21 @@ use Rattle.std.specs.FinMap as map_of
 use Rattle.trie_model.specs.Maps.{Map, root}
 use Rattle.batch_model.specs.Batch.{Change, set_change, after_batch}
 use Rattle.text_model.specs.LineKind.{LineKind}
-use Rattle.text_model.specs.ReadLine.{Line, Skip, Put, Del, Commit, View, Take, Close, State, Get, Root, Prove, Point, RangeOf, VerifyRange, Script, read_line}
-use Rattle.text_model.specs.Texts.{LimitKind, Pairs, Batch, commit_text, view_text, taken_text, closed_text, state_text, refused_text, value_text, root_text, proof_text, range_text}
+use Rattle.text_model.specs.ReadLine.{Line, Skip, Put, Del, Commit, View, Take, Close, State, Get, Root, Prove, Point, RangeOf, ChangesOf, VerifyRange, Script, read_line}
+use Rattle.text_model.specs.Texts.{LimitKind, Pairs, Batch, commit_text, view_text, taken_text, closed_text, state_text, refused_text, value_text, root_text, proof_text, range_text, changes_text}
 use Rattle.text_model.specs.Words.{PlaceWord, Db, View as OfView}
 use Rattle.view_model.specs.Calls.{Refusal, number_limit, view_refused, parent_refused, make_refused, made, directed, closed, committed as with_committed}
 use Rattle.view_model.specs.Forest.{Forest, ViewState, no_views, state, next_number, payload}
 use Rattle.view_model.specs.Maps.{changes_of, view_map}
 use Rattle.session_model.specs.Limits.{pairs_limit, payload_limit}
 use Rattle.session_model.specs.Refusals.{state_word, cause_words, take_refused}
-use Rattle.session_model.specs.Named.{proved, range_proved, not_held}
+use Rattle.session_model.specs.Named.{Holding, holds_first, holds_next, proved, range_proved, changes_proved, not_held}
 
--- a script at work: the map of the store, the views, and the changes that no commit and no view has taken so far
+-- a script at work: the map of the store, the maps that it holds, the views, and the changes that no commit and no view has
+-- taken so far
 pub record Session : Type 0 where
   pub map : Map
+  pub holding : Holding
   pub views : Forest
   pub pending : List Change
 
@@ -34,7 +36,7 @@ pub data Stop : Type 0 where
 
 -- before the first line
 abbrev pub start : Map → Session
-start m = record { map = m; views = no_views; pending = [] }
+start m = record { map = m; holding = holds_first m; views = no_views; pending = [] }
 
 -- a text is printed, and nothing is committed
 abbrev pub prints : List ℕ → Step
@@ -58,7 +60,7 @@ pend s key value = record s { pending = set_change s.pending (record { key = key
 
 -- the session after its pending batch was committed, whatever its limits
 abbrev pub committed : Session → Session
-committed s = record { map = after_batch s.map s.pending; views = directed s.views; pending = [] }
+committed s = let m = after_batch s.map s.pending in record { map = m; holding = holds_next s.holding m; views = directed s.views; pending = [] }
 
 -- what that prints, with tokens of w bits: the number of the batch and the root after it
 abbrev pub commit_step : ℕ → Session → Step
@@ -108,7 +110,7 @@ taken_map s n = after_batch s.map (changes_of s.views n)
 
 -- the session after a view was committed
 abbrev pub taken : Session → ℕ → Session
-taken s n = record s { map = taken_map s n; views = with_committed s.views n }
+taken s n = record s { map = taken_map s n; holding = holds_next s.holding (taken_map s n); views = with_committed s.views n }
 
 -- what that prints: the number of the view, and the root after it
 abbrev pub take_step : ℕ → Session → ℕ → Step
@@ -156,6 +158,11 @@ abbrev pub told_range : Option (List ℕ) → Step
 told_range None = refuses not_held
 told_range (Some bytes) = prints (range_text bytes)
 
+-- so of the proof of changes
+abbrev pub told_changes : Option (List ℕ) → Step
+told_changes None = refuses not_held
+told_changes (Some bytes) = prints (changes_text bytes)
+
 -- ---- a line
 
 -- what a line does. A script has no lines that check a proof
@@ -170,9 +177,10 @@ line_step w s (Close n) = Ok (close s n)
 line_step w s (State n) = Ok (s, told_state n (state s.views n))
 line_step w s (Get place key) = Ok (s, told s place (λ m. value_text (map_of.get m key)))
 line_step w s (Root place) = Ok (s, told s place (λ m. root_text (root w m)))
-line_step w s (Prove word key) = Ok (s, told_proof (proved w s.map word key))
+line_step w s (Prove word key) = Ok (s, told_proof (proved w s.holding.maps word key))
 line_step w s (Point root key proof) = Ok (s, quiet)
-line_step w s (RangeOf word asked pairs bytes) = Ok (s, told_range (range_proved w s.map word asked pairs bytes))
+line_step w s (RangeOf word asked pairs bytes) = Ok (s, told_range (range_proved w s.holding.maps word asked pairs bytes))
+line_step w s (ChangesOf from to asked pairs bytes) = Ok (s, told_changes (changes_proved w s.holding.maps from to asked pairs bytes))
 line_step w s (VerifyRange root asked proof) = Ok (s, quiet)
 
 abbrev pub or_limit : Result (Session × Step) LimitKind → Result (Session × Step) Stop

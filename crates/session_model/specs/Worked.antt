@@ -1,12 +1,12 @@
 -- Worked scripts on a store of the empty map, with tokens of 4 bits. Bytes are in hexadecimal where they stand in a script.
-use Rattle.std.specs.Prelude.{◌≡◌, ℕ, List, [], ◌∷◌, codes, Option, Some, None}
+use Rattle.std.specs.Prelude.{◌≡◌, ◌≢◌, ℕ, List, [], ◌∷◌, codes, Option, Some, None}
 use Rattle.std.specs.List.{filter_map}
 use Rattle.std.specs.FinMap as map_of
 use Rattle.trie_model.specs.Maps.{Map, root}
 use Rattle.text_model.specs.Texts.{commit_text, view_text, taken_text, state_text, root_text, proof_text, range_text}
 use Rattle.text_model.specs.Words.{Id, Now, Empty, Back}
 use Rattle.history_model.specs.Held.{no_map}
-use Rattle.session_model.specs.Named.{held, named}
+use Rattle.session_model.specs.Named.{named}
 use Rattle.session_model.specs.Session.{Step, Stop, BadLine, quiet}
 use Rattle.session_model.specs.Script.{script}
 
@@ -82,11 +82,17 @@ RefusedLines =
     × (printed (codes "put 0a 61\nroot db\nroot 1\n") ≡ root_text (root_of no_map) ∷ codes "refused unknown\n" ∷ commit_text 1 (root_of a) ∷ [])
     × (printed (codes "get db 0a\n") ≡ codes "none\n" ∷ [])
 
--- the present map has names, and the empty map has one where it is not the present one; no other map has one
+-- the present map has names, and the empty map has one where it is not the present one; of the maps before it those have one
+-- that are held
 abbrev pub NamedMaps : Type 0
 NamedMaps =
-    (m : Map) → (named 4 (held m) Now ≡ Some m) × (named 4 (held m) (Back 0) ≡ Some m) × (named 4 (held m) (Back 1) ≡ None)
-    × (named 4 (held m) (Id (root_of m)) ≡ Some m) × (named 4 (held no_map) Empty ≡ Some no_map)
+    (m : Map) → (named 4 (m ∷ []) Now ≡ Some m) × (named 4 (m ∷ []) (Back 0) ≡ Some m) × (named 4 (m ∷ []) (Back 1) ≡ None)
+    × (named 4 (m ∷ []) (Id (root_of m)) ≡ Some m) × (named 4 (no_map ∷ []) Empty ≡ Some no_map)
+    × ((former : Map) (maps : List Map) → (named 4 (m ∷ former ∷ maps) Now ≡ Some m) × (named 4 (m ∷ former ∷ maps) (Id (root_of m)) ≡ Some m))
+    -- the map one commit back, where the present one has another root
+    × ((former : Map) (maps : List Map) → root_of m ≢ root_of former → named 4 (m ∷ former ∷ maps) (Back 1) ≡ Some former)
+    -- a commit that changed nothing leaves the present map one commit back
+    × ((former : Map) (maps : List Map) → named 4 (m ∷ m ∷ maps) (Back 1) ≡ Some m)
 
 -- the bytes of a proof that shows no value and no node
 abbrev pub no_proof : List ℕ

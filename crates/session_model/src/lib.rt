@@ -6,7 +6,7 @@
 //! or some of their worked values. Nothing here fails, and nothing here takes memory.
 #![tactic(auto)]
 
-ghost use Rattle.session_model.specs.Laws.{StepsMakeTheMap, MapsEndThere, DecidedStops, AcknowledgedStand, ViewRootsStay};
+ghost use Rattle.session_model.specs.Laws.{StepsMakeTheMap, MapsEndThere, HeldOfAllMaps, ChangesAreNamed, DecidedStops, AcknowledgedStand, ViewRootsStay};
 ghost use Rattle.session_model.specs.Worked.{WorkedScripts, ViewScripts, ClosedLines, RefusedLines, NamedMaps, ProvedLines, RangedLines};
 
 /// The map at which a script stands is that after its steps.
@@ -17,6 +17,16 @@ pub fn steps_make_the_map()
 /// That map is the last one of the maps that the store had.
 pub fn maps_end_there()
     ensures { MapsEndThere }
+{}
+
+/// The maps that are held at the end of a script are those that are held of all its maps.
+pub fn held_of_all_maps()
+    ensures { HeldOfAllMaps }
+{}
+
+/// Between which two maps changes are told.
+pub fn changes_are_named()
+    ensures { ChangesAreNamed }
 {}
 
 /// Why a script stops by the first bytes of an input, the whole input does not change.
