@@ -27,7 +27,7 @@ use Rattle.base_model.specs.ReadUvarint.{uvarint_read}
 use Rattle.std.specs.Fmt.{digits}
 use Rattle.range_model.specs.Ranges.{everything}
 use Rattle.session_model.specs.Named.{range_proof_of}
-use Rattle.session_model.proofs.NamedMaps.{by_zeros}
+use Rattle.session_model.proofs.NamedMaps.{itself, by_zeros}
 use Rattle.session_model.proofs.WorkedScripts.{empty_range}
 use Rattle.run_model.specs.Outcome.{Outcome}
 use Rattle.run_model.specs.Range.{range_proof_outcome}
@@ -109,7 +109,7 @@ empty_runs = (prints_zeros (lines_of []) refl, prints_zeros (lines_of (codes "\n
 
 pub wrong_word_runs : WrongWordRuns
 unfolding decode_pairs
-wrong_word_runs found bytes = (refl, refl, refl, refl, refl, refl, refl, refl, refl, refl, refl, refl, refl, refl, refl, refl, refl, refl, refl, refl, refl, refl, refl, refl, refl, refl, refl, refl, refl, refl, refl, refl)
+wrong_word_runs found bytes = (refl, refl, refl, refl, refl, refl, refl, refl, refl, refl, refl, refl, refl, refl, refl, refl, refl, refl, refl, refl, refl, refl, refl, refl, refl, refl, refl, refl, refl, refl, refl, refl, refl, refl, refl, refl, refl, refl)
 
 pub wrong_line_runs : WrongLineRuns
 unfolding decode_pairs
@@ -137,4 +137,4 @@ empty_printed = ap empty_text empty_range
 
 pub range_runs : RangeRuns
 unfolding decode_pairs empty_text
-range_runs = (ap (λ found. range_proof_outcome (option_map (range_proof_of 4 everything 1 1) found)) by_zeros ∙ empty_printed, empty_printed, refl)
+range_runs = (ap (λ found. range_proof_outcome (option_map (range_proof_of 4 everything 1 1) found)) by_zeros ∙ empty_printed, rw (itself (root 4 empty)) empty_printed, refl)

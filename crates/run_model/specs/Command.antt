@@ -1,5 +1,5 @@
 -- The words of the command line: a folder, the command, its factor, and the command's own words.
-use Rattle.std.specs.Prelude.{ℕ, suc, Bool, true, false, if◌then◌else◌, List, [], ◌∷◌, codes, Option, Some, None, Result, Ok, Err}
+use Rattle.std.specs.Prelude.{ℕ, suc, ◌+◌, Bool, true, false, if◌then◌else◌, List, [], ◌∷◌, codes, Option, Some, None, Result, Ok, Err}
 use Rattle.std.specs.Str.{bytes_eq}
 use Rattle.std.specs.Result.{result_ok}
 use Rattle.range_model.specs.Ranges.{Range as Bounds}
@@ -18,6 +18,9 @@ pub data Command : Type 0 where
   Prove : RootWord → List ℕ → Command
   -- the proof of a range, in the map that a root names, with so many pairs and so many bytes of them at most
   Range : RootWord → Bounds → ℕ → ℕ → Command
+  -- the proof of what changed in a range from the map of one root to that of another, with so many changes and so many bytes of
+  -- them at most
+  Changes : RootWord → RootWord → Bounds → ℕ → ℕ → Command
   -- whether the proofs of the input are accepted
   Verify : Command
 
@@ -28,12 +31,14 @@ uses_store Apply = true
 uses_store (Get key) = true
 uses_store (Prove root key) = true
 uses_store (Range root asked pairs bytes) = true
+uses_store (Changes from to asked pairs bytes) = true
 uses_store Verify = false
 
 -- whether a command names a map, which the store may not have
 abbrev pub names_map : Command → Bool
 names_map (Prove root key) = true
 names_map (Range root asked pairs bytes) = true
+names_map (Changes from to asked pairs bytes) = true
 names_map other = false
 
 -- whether a command checks proofs
@@ -108,15 +113,22 @@ range_to start (Some end) = range_between start end
 abbrev pub end_word : Option (List ℕ) → List ℕ → Option Bounds
 end_word start word = range_to start (result_ok (bound_word word))
 
--- `range` has a root, a start, an end that is not below it, and how many pairs and bytes of them
+-- at this place a start, an end that is not below it, and how many entries and bytes of them, and no word behind them
+abbrev pub asked_words : ℕ → (Bounds → ℕ → ℕ → Command) → List (List ℕ) → Result Command ℕ
+asked_words place command =
+    word_then place (λ word. result_ok (bound_word word)) (λ start.
+    word_then (place + 1) (end_word start) (λ asked.
+    word_then (place + 2) (count_word most_pairs) (λ pairs.
+    word_then (place + 3) (count_word most_bytes) (λ bytes.
+    no_more (place + 4) (command asked pairs bytes)))))
+
+-- `range` has a root, and what is asked of its map
 abbrev pub range_words : List (List ℕ) → Result Command ℕ
-range_words =
-    word_then 4 root_word (λ root.
-    word_then 5 (λ word. result_ok (bound_word word)) (λ start.
-    word_then 6 (end_word start) (λ asked.
-    word_then 7 (count_word most_pairs) (λ pairs.
-    word_then 8 (count_word most_bytes) (λ bytes.
-    no_more 9 (Range root asked pairs bytes))))))
+range_words = word_then 4 root_word (λ root. asked_words 5 (Range root))
+
+-- `changes` has the former root, the later one, and what is asked of the changes between their maps
+abbrev pub changes_words : List (List ℕ) → Result Command ℕ
+changes_words = word_then 4 root_word (λ from. word_then 5 root_word (λ to. asked_words 6 (Changes from to)))
 
 -- where a store is used, word 1 is its folder, and not `-`
 abbrev pub in_folder : List ℕ → Result Job ℕ → Result Job ℕ
@@ -131,6 +143,7 @@ command_words folder (command ∷ words) =
     else if bytes_eq command (codes "get") then in_folder folder (job_words get_words words)
     else if bytes_eq command (codes "prove") then in_folder folder (job_words prove_words words)
     else if bytes_eq command (codes "range") then in_folder folder (job_words range_words words)
+    else if bytes_eq command (codes "changes") then in_folder folder (job_words changes_words words)
     else if bytes_eq command (codes "verify") then job_words (no_words Verify) words
     else Err 2
 

@@ -6,7 +6,7 @@ use Rattle.range_model.specs.Ranges.{Range as Bounds}
 use Rattle.text_model.specs.Laws.{IsAskedRange}
 use Rattle.text_model.specs.Lines.{AreWholeLines}
 use Rattle.text_model.specs.Words.{RootWord}
-use Rattle.run_model.specs.Command.{Range, job_of}
+use Rattle.run_model.specs.Command.{Range, Changes, job_of}
 use Rattle.run_model.specs.End.{End, Done}
 use Rattle.run_model.specs.Outcome.{Outcome}
 use Rattle.run_model.specs.Root.{root_outcome, root_decided}
@@ -32,6 +32,8 @@ UndecidedVerifyFinishes = (w : ℕ) (front : List ℕ) → verify_decided w fron
 abbrev pub PassedLinesAreTrue : Type 0
 PassedLinesAreTrue = (w : ℕ) (lines : List (List ℕ)) → IsWidth w → AllByRecursion (IsTrueLine w) (passed w lines)
 
--- what words ask for of a range is within the limits
+-- what words ask for of a range, or of changes in one, is within the limits
 abbrev pub RangeWordsAreWithin : Type 0
-RangeWordsAreWithin = (given : List (List ℕ)) (w : ℕ) (root : RootWord) (asked : Bounds) (pairs bytes : ℕ) → job_of given ≡ Ok (record { width = w; command = Range root asked pairs bytes }) → IsAskedRange asked pairs bytes
+RangeWordsAreWithin =
+    ((given : List (List ℕ)) (w : ℕ) (root : RootWord) (asked : Bounds) (pairs bytes : ℕ) → job_of given ≡ Ok (record { width = w; command = Range root asked pairs bytes }) → IsAskedRange asked pairs bytes)
+    × ((given : List (List ℕ)) (w : ℕ) (from to : RootWord) (asked : Bounds) (pairs bytes : ℕ) → job_of given ≡ Ok (record { width = w; command = Changes from to asked pairs bytes }) → IsAskedRange asked pairs bytes)

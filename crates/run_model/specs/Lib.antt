@@ -10,6 +10,7 @@ pub mod Reading
 pub mod Get
 pub mod Prove
 pub mod Range
+pub mod Changes
 pub mod Verify
 pub mod Runs
 pub mod Laws

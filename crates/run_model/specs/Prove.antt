@@ -3,7 +3,7 @@ use Rattle.std.specs.Prelude.{ℕ, List, Option, Some, None}
 use Rattle.trie_model.specs.Maps.{Map}
 use Rattle.text_model.specs.Texts.{proof_text}
 use Rattle.text_model.specs.Words.{RootWord}
-use Rattle.session_model.specs.Named.{proved}
+use Rattle.session_model.specs.Named.{holds_first, proved}
 use Rattle.run_model.specs.Outside.{Outside}
 use Rattle.run_model.specs.End.{End, Done, NotHeld}
 use Rattle.run_model.specs.Outcome.{Outcome, silent}
@@ -14,9 +14,9 @@ abbrev pub proof_outcome : Option (List ℕ) → Outcome
 proof_outcome None = silent NotHeld
 proof_outcome (Some bytes) = record { end = Done; text = proof_text bytes }
 
--- the outcome on a store that stands for this map, with tokens of w bits
+-- the outcome on a store that stands for this map, and holds no other, with tokens of w bits
 abbrev pub prove_outcome : ℕ → RootWord → List ℕ → Map → Outcome
-prove_outcome w root key m = proof_outcome (proved w m root key)
+prove_outcome w root key m = proof_outcome (proved w (holds_first m).maps root key)
 
 -- what a run of `prove` promises
 abbrev pub ProveRuns : RootWord → List ℕ → ℕ → Outside → Outside → End → Type 0

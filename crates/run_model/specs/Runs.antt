@@ -10,7 +10,7 @@ use Rattle.proof_model.specs.Checked.{Cause}
 use Rattle.run_model.specs.Outside.{DiskSeen, Outside}
 use Rattle.range_model.specs.Ranges.{Range as Bounds}
 use Rattle.text_model.specs.Words.{RootWord}
-use Rattle.run_model.specs.Command.{Command, Root, Apply, Get, Prove, Range, Verify, Job, job_of, uses_store, names_map, checks_proofs}
+use Rattle.run_model.specs.Command.{Command, Root, Apply, Get, Prove, Range, Changes, Verify, Job, job_of, uses_store, names_map, checks_proofs}
 use Rattle.run_model.specs.End.{End, BadWords, NotOpened, VerifyRefused, NotHeld, Limit, Read, Write, Disk}
 use Rattle.run_model.specs.Outcome.{Outcome, silent, IsComplete}
 use Rattle.run_model.specs.Store.{NeedsStore, RefusalHasCause, on_found}
@@ -19,6 +19,7 @@ use Rattle.run_model.specs.Apply.{apply_outcome, ApplyRuns}
 use Rattle.run_model.specs.Get.{get_outcome, GetRuns}
 use Rattle.run_model.specs.Prove.{prove_outcome, ProveRuns}
 use Rattle.run_model.specs.Range.{range_outcome, RangeRuns}
+use Rattle.run_model.specs.Changes.{changes_outcome, ChangesRuns}
 use Rattle.run_model.specs.Verify.{verify_outcome, VerifyRuns}
 
 -- ---- by command
@@ -29,6 +30,7 @@ command_outcome Apply w found bytes = on_found (λ m. apply_outcome w m bytes) f
 command_outcome (Get key) w found bytes = on_found (get_outcome key) found
 command_outcome (Prove root key) w found bytes = on_found (prove_outcome w root key) found
 command_outcome (Range root asked pairs bytes) w found given = on_found (range_outcome w root asked pairs bytes) found
+command_outcome (Changes from to asked pairs bytes) w found given = on_found (changes_outcome w from to asked pairs bytes) found
 command_outcome Verify w found bytes = verify_outcome w bytes
 
 -- what a command needs of the disk to come to that
@@ -38,6 +40,7 @@ CommandNeeds Apply w before after found = NeedsStore w before after found
 CommandNeeds (Get key) w before after found = NeedsStore w before after found
 CommandNeeds (Prove root key) w before after found = NeedsStore w before after found
 CommandNeeds (Range root asked pairs bytes) w before after found = NeedsStore w before after found
+CommandNeeds (Changes from to asked pairs bytes) w before after found = NeedsStore w before after found
 CommandNeeds Verify w before after found = Unit {0}
 
 -- a wrong word is the outcome whatever the input and the files are
@@ -119,6 +122,7 @@ command_runs Apply w before after end = ApplyRuns w before after end
 command_runs (Get key) w before after end = GetRuns key w before after end
 command_runs (Prove root key) w before after end = ProveRuns root key w before after end
 command_runs (Range root asked pairs bytes) w before after end = RangeRuns root asked pairs bytes w before after end
+command_runs (Changes from to asked pairs bytes) w before after end = ChangesRuns from to asked pairs bytes w before after end
 command_runs Verify w before after end = VerifyRuns w before after end
 
 -- where the words ask for it, the run is as the record says
@@ -136,6 +140,9 @@ ProvePart given before after end = (w : ℕ) (root : RootWord) (key : List ℕ) 
 
 abbrev pub RangePart : List (List ℕ) → Outside → Outside → End → Type 0
 RangePart given before after end = (w : ℕ) (root : RootWord) (asked : Bounds) (pairs bytes : ℕ) → job_of given ≡ Ok (record { width = w; command = Range root asked pairs bytes }) → RangeRuns root asked pairs bytes w before after end
+
+abbrev pub ChangesPart : List (List ℕ) → Outside → Outside → End → Type 0
+ChangesPart given before after end = (w : ℕ) (from to : RootWord) (asked : Bounds) (pairs bytes : ℕ) → job_of given ≡ Ok (record { width = w; command = Changes from to asked pairs bytes }) → ChangesRuns from to asked pairs bytes w before after end
 
 abbrev pub VerifyPart : List (List ℕ) → Outside → Outside → End → Type 0
 VerifyPart given before after end = (w : ℕ) → job_of given ≡ Ok (record { width = w; command = Verify }) → VerifyRuns w before after end
@@ -156,4 +163,5 @@ pub record Runs (given : List (List ℕ)) (before after : Outside) (end : End) :
   pub get : GetPart given before after end
   pub prove : ProvePart given before after end
   pub range : RangePart given before after end
+  pub changes : ChangesPart given before after end
   pub verify : VerifyPart given before after end

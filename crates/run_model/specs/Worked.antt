@@ -58,6 +58,10 @@ EmptyRuns =
 abbrev pub ranging : List (List ℕ) → List (List ℕ)
 ranging own = codes "range" ∷ codes "16" ∷ own
 
+-- so of `changes`
+abbrev pub changing : List (List ℕ) → List (List ℕ)
+changing own = codes "changes" ∷ codes "16" ∷ own
+
 -- words outside the grammar, whatever the input and the files are
 abbrev pub WrongWordRuns : Type 0
 WrongWordRuns =
@@ -100,6 +104,13 @@ WrongWordRuns =
     × (outcome (codes "D" ∷ ranging (codes "now" ∷ codes "*" ∷ codes "*" ∷ codes "4097" ∷ codes "1" ∷ [])) found bytes ≡ silent (BadWords 7))
     × (outcome (codes "D" ∷ ranging (codes "now" ∷ codes "*" ∷ codes "*" ∷ codes "4096" ∷ codes "2097153" ∷ [])) found bytes ≡ silent (BadWords 8))
     × (outcome (codes "D" ∷ ranging (codes "now" ∷ codes "*" ∷ codes "*" ∷ codes "4096" ∷ codes "2097152" ∷ codes "1" ∷ [])) found bytes ≡ silent (BadWords 9))
+    -- `changes` has two roots in front of these
+    × (outcome (codes "-" ∷ changing (codes "now" ∷ codes "now" ∷ codes "*" ∷ codes "*" ∷ codes "1" ∷ codes "1" ∷ [])) found bytes ≡ silent (BadWords 1))
+    × (outcome (codes "D" ∷ changing []) found bytes ≡ silent (BadWords 4))
+    × (outcome (codes "D" ∷ changing (codes "now" ∷ codes "db" ∷ codes "**" ∷ [])) found bytes ≡ silent (BadWords 5))
+    × (outcome (codes "D" ∷ changing (codes "now" ∷ codes "now" ∷ codes "0b" ∷ codes "0a" ∷ codes "0" ∷ codes "1" ∷ [])) found bytes ≡ silent (BadWords 7))
+    × (outcome (codes "D" ∷ changing (codes "now" ∷ codes "now" ∷ codes "*" ∷ codes "*" ∷ codes "4097" ∷ codes "1" ∷ [])) found bytes ≡ silent (BadWords 8))
+    × (outcome (codes "D" ∷ changing (codes "now" ∷ codes "now" ∷ codes "*" ∷ codes "*" ∷ codes "1" ∷ codes "1" ∷ codes "1" ∷ [])) found bytes ≡ silent (BadWords 10))
     -- `verify` has no words of its own
     × (outcome (codes "-" ∷ codes "verify" ∷ codes "16" ∷ codes "now" ∷ []) found bytes ≡ silent (BadWords 4))
 
