@@ -23,7 +23,7 @@ other_change : (m : Map) (k q : List ℕ) (v : Option (List ℕ)) (o : Ordering)
 other_change m k q v o e apart = get_changed m k v q ∙ ap (λ b. cond b v (get m q)) (ap is_eq e ∙ apart)
 
 -- and so do changes on higher keys
-higher_changes : (m : Map) (k : List ℕ) (cs : List Change) → AreRising (Some k) cs → get (after_batch m cs) k ≡ get m k
+pub higher_changes : (m : Map) (k : List ℕ) (cs : List Change) → AreRising (Some k) cs → get (after_batch m cs) k ≡ get m k
 higher_changes m k [] h = refl
 higher_changes m k (c ∷ cs) h =
     higher_changes (put_or_removed m c.key c.value) k cs (lower k c.key cs h.0 h.1) ∙ other_change m c.key k c.value Less (less (bytes_cmp k c.key) h.0) refl

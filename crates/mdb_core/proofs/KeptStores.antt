@@ -10,6 +10,9 @@ use Rattle.value_store.specs.Values.{HasKeys}
 use Rattle.value_store.specs.Writes.{KeysAfter}
 use Rattle.value_store.proofs.KeptMaps.{keeps_stands, keeps_keys, keeps_as_read}
 use Rattle.mdb_core.specs.Stores.{DbState, Keeps}
+use Rattle.mdb_core.specs.Places.{Speaks}
+use Rattle.mdb_core.specs.declared.store.At.{At}
+use Rattle.mdb_core.specs.declared.store.At.TheVariants.{Store, View, Root}
 use Rattle.mdb_core.specs.Opens.{Opened}
 use Rattle.mdb_core.proofs.CountedKeys.{same_number_after}
 
@@ -23,13 +26,19 @@ kept_stands s m files k = keeps_stands s.values m files k.values
 pub kept_root : (s : DbState) (m : Map) (files : Files) → Keeps s m files → s.root ≡ root s.width m
 kept_root s m files k = k.roots.map
 
+-- what is said of any place may be said of it
+pub kept_speaks : (s : DbState) (m : Map) (files : Files) (at : At) → Keeps s m files → Speaks s m at
+kept_speaks s m files Store k = record { digests = k.digests; past = tt }
+kept_speaks s m files (View id) k = record { digests = k.digests; past = tt }
+kept_speaks s m files (Root id) k = record { digests = k.digests; past = k.history }
+
 -- files that are the same are kept too
 pub kept_same : (s : DbState) (m : Map) (files now : Files) → now ≡ files → Keeps s m files → Keeps s m now
 kept_same s m files now same k = subst (λ (f : Files). Keeps s m f) (sym same) k
 
 -- and so are those whose first two are the same
 pub kept_as_read : (s : DbState) (m : Map) (files now : Files) → ((file : ℕ) → file ≤ 1 → now file ≡ files file) → Keeps s m files → Keeps s m now
-kept_as_read s m files now same k = record { values = keeps_as_read s.values m files now same k.values; digests = k.digests; short = k.short; roots = k.roots }
+kept_as_read s m files now same k = record { values = keeps_as_read s.values m files now same k.values; digests = k.digests; short = k.short; roots = k.roots; history = k.history }
 
 -- the map that was found is the one for which the files stood
 pub opened_keeps : (width : ℕ) (was is : Files) (s : DbState) (m : Map) → Opened width was is s → Stands limits was m → Keeps s m is

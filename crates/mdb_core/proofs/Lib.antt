@@ -10,6 +10,8 @@ pub mod StoresKept
 pub mod Refusals
 pub mod BatchLookups
 pub mod NamedMaps
+pub mod HeldMaps
 pub mod ShortKeys
 pub mod NextDigests
 pub mod EmptyMaps
+pub mod Altered

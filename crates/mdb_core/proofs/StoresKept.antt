@@ -12,6 +12,7 @@ use Rattle.view_model.proofs.Commits.{next_is_told}
 use Rattle.view_model.proofs.Forests.{no_views-IsForest, new_found}
 use Rattle.view_model.proofs.ViewMaps.{changes_found, made_on_parents, commits_take_maps, directs_end_all}
 use Rattle.view_model.proofs.Following.{IsThere, Follows, made_follows, closed_follows, committed_follows, directed_follows, made_there, closed_there, committed_there}
+use Rattle.change_history.specs.Histories.{HistoryState, held_by, recalled, Remembers}
 use Rattle.node_table.specs.Pairs.{AreShort}
 use Rattle.mdb_journal.specs.Journal.{payload_limit}
 use Rattle.value_store.specs.Values.{ValueState}
@@ -36,14 +37,15 @@ root_at-last roots id (suc i) e = get_or_at roots id [] [] i (omega (arith, e))
 
 -- ---- opening
 
-pub opened-IsStore : (v : ValueState) (ds : List (List ℕ × List ℕ)) (w : ℕ) (id : List ℕ) → AreDigests ds → ((m : Map) → ds ≡ map_digests m → id ≡ root w m)
-    → IsStore (record { values = v; digests = ds; width = w; root = id; forest = no_views; roots = [] }) None
-opened-IsStore v ds w id some is = record {
+pub opened-IsStore : (v : ValueState) (ds : List (List ℕ × List ℕ)) (w : ℕ) (id : List ℕ) (h : HistoryState) → AreDigests ds → ((m : Map) → ds ≡ map_digests m → id ≡ root w m) → h.root ≡ id
+    → IsStore (record { values = v; digests = ds; width = w; root = id; forest = no_views; roots = []; history = h }) None
+opened-IsStore v ds w id h some is newest = record {
   digests = some;
   roots = λ m e. record { map = is m e; views = λ n live. absurd (cc) };
   forest = no_views-IsForest;
   counted = refl;
   fits = λ n live. absurd (cc);
+  newest = newest;
   nodes_are = tt;
 }
 
@@ -55,6 +57,7 @@ values-IsStore s v h = record {
   forest = h.forest;
   counted = h.counted;
   fits = h.fits;
+  newest = h.newest;
   nodes_are = h.nodes_are;
 }
 
@@ -95,6 +98,7 @@ module _ (s : DbState) (rows : Option (List Row)) (h : IsStore s rows) (parent :
       forest = (follows h.digests.0).forest;
       counted = omega (arith, h.counted, length-append s.roots (id ∷ []), length-append s.forest.views (new_view s.forest parent batch ∷ []));
       fits = λ n live. go n live (made_there s.forest parent batch n live);
+      newest = h.newest;
       nodes_are = h.nodes_are;
     }
       where
@@ -118,13 +122,14 @@ closed-IsStore s c h = record {
   fits = λ n live.
       let was = (closed_follows s.forest h.digests.0 c h.forest).live n (closed_there s.forest c n live) live in
       subst (λ cs. payload cs ≤ payload_limit) (sym was.2) (h.fits n was.0);
+  newest = h.newest;
   nodes_are = h.nodes_are;
 }
 
 -- ---- views that are committed
 
-module _ (s : DbState) (rows : Option (List Row)) (h : IsStore s rows) (c : ℕ) (may : MayCommit s.forest c) (v : ValueState) (ds : List (List ℕ × List ℕ)) (is : (m : Map) → s.digests ≡ map_digests m → ds ≡ map_digests (after_batch m (changes_of s.forest c))) (short : AreShort (keys_of ds)) where
-  committed-HasRoots : (m : Map) → ds ≡ map_digests m → HasRoots (record s { values = v; digests = ds; root = root_at s.roots c; forest = committed s.forest c }) m
+module _ (s : DbState) (rows : Option (List Row)) (h : IsStore s rows) (c : ℕ) (may : MayCommit s.forest c) (v : ValueState) (ds : List (List ℕ × List ℕ)) (is : (m : Map) → s.digests ≡ map_digests m → ds ≡ map_digests (after_batch m (changes_of s.forest c))) (short : AreShort (keys_of ds)) (past : HistoryState) (newest : past.root ≡ root_at s.roots c) where
+  committed-HasRoots : (m : Map) → ds ≡ map_digests m → HasRoots (record s { values = v; digests = ds; root = root_at s.roots c; forest = committed s.forest c; history = past }) m
   committed-HasRoots m e = record {
     map =
         (h.roots h.digests.0 h.digests.1).views c may.0
@@ -140,7 +145,7 @@ module _ (s : DbState) (rows : Option (List Row)) (h : IsStore s rows) (c : ℕ)
       same : map_digests (after_batch h.digests.0 (changes_of s.forest c)) ≡ map_digests m
       same = sym (is h.digests.0 h.digests.1) ∙ e
 
-  pub committed-IsStore : IsStore (record s { values = v; digests = ds; root = root_at s.roots c; forest = committed s.forest c }) None
+  pub committed-IsStore : IsStore (record s { values = v; digests = ds; root = root_at s.roots c; forest = committed s.forest c; history = past }) None
   committed-IsStore = record {
     digests = (after_batch h.digests.0 (changes_of s.forest c), is h.digests.0 h.digests.1, short);
     roots = committed-HasRoots;
@@ -149,50 +154,62 @@ module _ (s : DbState) (rows : Option (List Row)) (h : IsStore s rows) (c : ℕ)
     fits = λ n live.
         let was = (committed_follows s.forest h.digests.0 c h.forest may).live n (committed_there s.forest c n may live) live in
         subst (λ cs. payload cs ≤ payload_limit) (sym was.2) (h.fits n was.0);
+    newest = newest;
     nodes_are = tt;
   }
 
 -- ---- direct batches
 
-pub directed-IsStore : {rows : Option (List Row)} (s : DbState) (v : ValueState) (ds : List (List ℕ × List ℕ)) (id : List ℕ) → IsStore s rows → AreDigests ds → ((m : Map) → ds ≡ map_digests m → id ≡ root s.width m)
-    → IsStore (record s { values = v; digests = ds; root = id; forest = directed s.forest; roots = s.roots ++ id ∷ [] }) None
-directed-IsStore s v ds id h some is = record {
+pub directed-IsStore : {rows : Option (List Row)} (s : DbState) (v : ValueState) (ds : List (List ℕ × List ℕ)) (id : List ℕ) (past : HistoryState) → IsStore s rows → AreDigests ds → ((m : Map) → ds ≡ map_digests m → id ≡ root s.width m) → past.root ≡ id
+    → IsStore (record s { values = v; digests = ds; root = id; forest = directed s.forest; roots = s.roots ++ id ∷ []; history = past }) None
+directed-IsStore s v ds id past h some is newest = record {
   digests = some;
   roots = λ m e. record { map = is m e; views = λ n live. absurd (directs_end_all s.forest n h.forest live) };
   forest = (directed_follows s.forest h.digests.0 h.digests.0 h.forest).forest;
   counted = omega (arith, h.counted, length-append s.roots (id ∷ []), length-map (made s.forest None []).views (kept_by (s.forest.store ++ next_number s.forest ∷ [])), length-append s.forest.views (new_view s.forest None [] ∷ []));
   fits = λ n live. absurd (directs_end_all s.forest n h.forest live);
+  newest = newest;
   nodes_are = tt;
 }
 
 -- ---- as calls leave the parts of a store
 
-pub kept : {rows : Option (List Row)} (s : DbState) (m : Map) (files : Files) → IsStore s rows → ValuesKeep s.values m files → s.digests ≡ map_digests m → Keeps s m files
-kept s m files h values digests = record { values = values; digests = digests; short = h.digests.2; roots = h.roots m digests }
+pub kept : {rows : Option (List Row)} (s : DbState) (m : Map) (files : Files) → IsStore s rows → ValuesKeep s.values m files → s.digests ≡ map_digests m → Remembers s.width s.history m → Keeps s m files
+kept s m files h values digests past = record { values = values; digests = digests; short = h.digests.2; roots = h.roots m digests; history = past }
 
 -- s is what a store was, as its parts are seen and as the call was told of it
-pub applied : {rows : Option (List Row)} (s t : DbState) (v : ValueState) (ds : List (List ℕ × List ℕ)) (id : List ℕ) (batch : List Change) (f g : Forest) (rs qs : List (List ℕ)) → s ≡ t → IsStore s rows
+pub applied : {rows : Option (List Row)} (s t : DbState) (v : ValueState) (ds : List (List ℕ × List ℕ)) (id : List ℕ) (past : HistoryState) (batch : List Change) (f g : Forest) (rs qs : List (List ℕ)) → s ≡ t → IsStore s rows
     → ((m : Map) → t.digests ≡ map_digests m → ds ≡ map_digests (after_batch m batch)) → AreShort (keys_of ds) → ((m : Map) → ds ≡ map_digests m → id ≡ root t.width m)
-    → f ≡ s.forest → g ≡ directed f → rs ≡ s.roots → qs ≡ rs ++ id ∷ []
-    → IsStore (record { values = v; digests = ds; width = s.width; root = id; forest = g; roots = qs }) None
-applied s t v ds id batch f g rs qs same h laid short is f-is g-is rs-is qs-is =
+    → past.root ≡ id → f ≡ s.forest → g ≡ directed f → rs ≡ s.roots → qs ≡ rs ++ id ∷ []
+    → IsStore (record { values = v; digests = ds; width = s.width; root = id; forest = g; roots = qs; history = past }) None
+applied s t v ds id past batch f g rs qs same h laid short is newest f-is g-is rs-is qs-is =
     let forest : directed s.forest ≡ g = ap directed (sym f-is) ∙ sym g-is in
     let roots : s.roots ++ id ∷ [] ≡ qs = ap (λ xs. xs ++ id ∷ []) (sym rs-is) ∙ sym qs-is in
     let some : AreDigests ds = (after_batch h.digests.0 batch, laid h.digests.0 (ap (λ (x : DbState). x.digests) (sym same) ∙ h.digests.1), short) in
     let id-is : (m : Map) → ds ≡ map_digests m → id ≡ root s.width m = λ m e. is m e ∙ ap (λ (x : DbState). root x.width m) (sym same) in
-    subst (λ (x : Forest). IsStore (record { values = v; digests = ds; width = s.width; root = id; forest = x; roots = qs }) None) forest
-    (subst (λ (xs : List (List ℕ)). IsStore (record { values = v; digests = ds; width = s.width; root = id; forest = directed s.forest; roots = xs }) None) roots
-    (directed-IsStore s v ds id h some id-is))
+    subst (λ (x : Forest). IsStore (record { values = v; digests = ds; width = s.width; root = id; forest = x; roots = qs; history = past }) None) forest
+    (subst (λ (xs : List (List ℕ)). IsStore (record { values = v; digests = ds; width = s.width; root = id; forest = directed s.forest; roots = xs; history = past }) None) roots
+    (directed-IsStore s v ds id past h some id-is newest))
 
-pub taken : {rows : Option (List Row)} (s t : DbState) (v : ValueState) (ds : List (List ℕ × List ℕ)) (id : List ℕ) (n : ℕ) (g : Forest) → s ≡ t → IsStore s rows → MayCommit t.forest n
-    → ((m : Map) → t.digests ≡ map_digests m → ds ≡ map_digests (after_batch m (changes_of t.forest n))) → AreShort (keys_of ds) → id ≡ root_at t.roots n → g ≡ committed s.forest n
-    → IsStore (record { values = v; digests = ds; width = s.width; root = id; forest = g; roots = s.roots }) None
-taken {rows} s t v ds id n g same h may laid short id-is g-is =
+pub taken : {rows : Option (List Row)} (s t : DbState) (v : ValueState) (ds : List (List ℕ × List ℕ)) (id : List ℕ) (past : HistoryState) (n : ℕ) (g : Forest) → s ≡ t → IsStore s rows → MayCommit t.forest n
+    → ((m : Map) → t.digests ≡ map_digests m → ds ≡ map_digests (after_batch m (changes_of t.forest n))) → AreShort (keys_of ds) → id ≡ root_at t.roots n → past.root ≡ id → g ≡ committed s.forest n
+    → IsStore (record { values = v; digests = ds; width = s.width; root = id; forest = g; roots = s.roots; history = past }) None
+taken {rows} s t v ds id past n g same h may laid short id-is newest g-is =
     let may' : MayCommit s.forest n = subst (λ (x : DbState). MayCommit x.forest n) (sym same) may in
     let laid' = subst (λ (x : DbState). (m : Map) → x.digests ≡ map_digests m → ds ≡ map_digests (after_batch m (changes_of x.forest n))) (sym same) laid in
-    subst (λ (x : Forest). IsStore (record { values = v; digests = ds; width = s.width; root = id; forest = x; roots = s.roots }) None) (sym g-is)
-    (subst (λ (x : List ℕ). IsStore (record { values = v; digests = ds; width = s.width; root = x; forest = committed s.forest n; roots = s.roots }) None) (sym (id-is ∙ ap (λ (x : DbState). root_at x.roots n) (sym same)))
-    (committed-IsStore s rows h n may' v ds laid' short))
+    let root_is : id ≡ root_at s.roots n = id-is ∙ ap (λ (x : DbState). root_at x.roots n) (sym same) in
+    subst (λ (x : Forest). IsStore (record { values = v; digests = ds; width = s.width; root = id; forest = x; roots = s.roots; history = past }) None) (sym g-is)
+    (subst (λ (x : List ℕ). IsStore (record { values = v; digests = ds; width = s.width; root = x; forest = committed s.forest n; roots = s.roots; history = past }) None) (sym root_is)
+    (committed-IsStore s rows h n may' v ds laid' short past (newest ∙ root_is)))
+
+-- the history of the store n that a commit made of s: it is that of the map after it, and holds the latest maps
+pub recorded : {rows : Option (List Row)} (s t n : DbState) (former m : Map) → s ≡ t → IsStore n rows → n.digests ≡ map_digests m → n.width ≡ s.width
+    → ((w : ℕ) → Remembers w s.history former → n.root ≡ root w m → Remembers w n.history m × (recalled n.history m ≡ held_by s.history (m ∷ recalled s.history former)))
+    → Remembers t.width t.history former → Remembers n.width n.history m × (recalled n.history m ≡ held_by t.history (m ∷ recalled t.history former))
+recorded s t n former m same h digests width-is remembers past =
+    let there : Remembers s.width s.history former = subst (λ (x : DbState). Remembers x.width x.history former) (sym same) past in
+    subst (λ (x : DbState). Remembers n.width n.history m × (recalled n.history m ≡ held_by x.history (m ∷ recalled x.history former))) same
+    (remembers n.width (subst (λ (k : ℕ). Remembers k s.history former) (sym width-is) there) (h.roots m digests).map)
 
 pub proposed : {rows : Option (List Row)} (s t : DbState) (id : List ℕ) (parent : Option ℕ) (batch : List Change) (g : Forest) (rs qs : List (List ℕ)) → s ≡ t → IsStore s rows → parent_refused t.forest parent ≡ None → payload batch ≤ payload_limit
     → ((m : Map) → t.digests ≡ map_digests m → id ≡ root t.width (after_batch (parent_map t.forest m parent) batch)) → g ≡ made s.forest parent batch → rs ≡ s.roots → qs ≡ rs ++ id ∷ []

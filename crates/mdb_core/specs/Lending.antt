@@ -13,7 +13,7 @@ use Rattle.mdb_core.specs.Reads.{Reads}
 use Rattle.mdb_core.specs.Spots.{IsSpotOf, keys_at}
 use Rattle.mdb_core.specs.MapKeys.{map_keys-AreAscending, map_keys-digests, map_keys-none}
 use Rattle.mdb_core.specs.declared.spot.Spot.{Spot}
-use Rattle.mdb_core.specs.declared.spot.Spot.TheVariants.{Store, View, Empty}
+use Rattle.mdb_core.specs.declared.spot.Spot.TheVariants.{Store, View, Past, Empty}
 use Rattle.mdb_core.specs.declared.source.DbSource.{DbSource}
 
 -- the files are those of the store, and the spot names this map
@@ -46,11 +46,13 @@ lending w = record {
 ascending : (s : DbState) (spot : Spot) → AreAscending (keys_at s spot)
 ascending s Store = tidy-AreAscending (keys_of s.digests)
 ascending s (View p) = tidy-AreAscending (keys_of p.digests)
+ascending s (Past p) = tidy-AreAscending (keys_of p.digests)
 ascending s Empty = tt
 
 short : (s : DbState) (spot : Spot) → AreShort (keys_at s spot)
 short s Store = tidy-AreShort (keys_of s.digests)
 short s (View p) = tidy-AreShort (keys_of p.digests)
+short s (Past p) = tidy-AreShort (keys_of p.digests)
 short s Empty = tt
 
 -- digests of a map have its keys
@@ -62,6 +64,7 @@ tidy_keys ds m is fits =
 told_keys : (s : DbState) (m : Map) (files : Files) (spot : Spot) (n : Map) → Keeps s m files → IsSpotOf s m spot n → keys_at s spot ≡ map_keys n
 told_keys s m files Store n k is = tidy_keys s.digests m k.digests k.short ∙ ap map_keys (sym is)
 told_keys s m files (View p) n k is = tidy_keys p.digests n is.digests is.short
+told_keys s m files (Past p) n k is = tidy_keys p.digests n is.digests is.short
 told_keys s m files Empty n k is = sym map_keys-none ∙ ap map_keys (sym is)
 
 -- ---- after reads
@@ -78,6 +81,7 @@ broken_keeps s m files k = record {
   digests = k.digests;
   short = k.short;
   roots = record { map = k.roots.map; views = k.roots.views };
+  history = k.history;
 }
 
 reads_keep : (s t : DbState) (m : Map) (files : Files) → Reads s t → Keeps s m files → Keeps t m files
@@ -87,6 +91,7 @@ reads_keep s t m files (inr failed) k = subst (λ (x : DbState). Keeps x m files
 broken_spot : (s : DbState) (m : Map) (spot : Spot) (n : Map) → IsSpotOf s m spot n → IsSpotOf (broken s) m spot n
 broken_spot s m Store n is = is
 broken_spot s m (View p) n is = record { live = is.live; map = is.map; digests = is.digests; short = is.short; nodes = is.nodes }
+broken_spot s m (Past p) n is = record { map = is.map; digests = is.digests; short = is.short; nodes = is.nodes }
 broken_spot s m Empty n is = is
 
 reads_spot : (s t : DbState) (m : Map) (spot : Spot) (n : Map) → Reads s t → IsSpotOf s m spot n → IsSpotOf t m spot n
@@ -96,6 +101,7 @@ reads_spot s t m spot n (inr failed) is = subst (λ (x : DbState). IsSpotOf x m 
 broken_keys : (s : DbState) (spot : Spot) → keys_at (broken s) spot ≡ keys_at s spot
 broken_keys s Store = refl
 broken_keys s (View p) = refl
+broken_keys s (Past p) = refl
 broken_keys s Empty = refl
 
 reads_keys : (s t : DbState) (spot : Spot) → Reads s t → keys_at t spot ≡ keys_at s spot

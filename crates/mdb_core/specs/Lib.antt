@@ -11,3 +11,4 @@ pub mod Proposed
 pub mod Spots
 pub mod Reads
 pub mod Lending
+pub mod Alterations

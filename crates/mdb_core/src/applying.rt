@@ -1,21 +1,25 @@
 // Applying a batch.
-ghost use Rattle.std.specs.Prelude.{◌≡◌, ◌+◌, ◌≤◌, ◌<◌, ℕ, false, length, vec_capacity, OnOk, IfOk, IfErr, IsErrOf};
+ghost use Rattle.std.specs.Prelude.{◌≡◌, ◌+◌, ◌≤◌, ◌<◌, ◌∷◌, ℕ, false, length, vec_capacity, OnOk, IfOk, IfErr, IsErrOf};
 ghost use Rattle.base_model.specs.Faults.{Rose};
 ghost use Rattle.disk_model.specs.Moments.{LeavesOnly, Meanwhile};
 ghost use Rattle.disk_model.specs.Words.{TellsContents, TellsImages};
 ghost use Rattle.trie_model.specs.Maps.{Map, limits, map_digests, map_items, root};
 ghost use Rattle.trie_model.specs.Strings.{strings};
 ghost use Rattle.batch_model.specs.Batch.{after_batch};
+ghost use Rattle.history_model.specs.Held.{held};
 ghost use Rattle.store_model.specs.Journal.{Stands};
 ghost use Rattle.mdb_journal.specs.Moves.{AreSynced, OthersStay};
+ghost use Rattle.mdb_journal.specs.Opening.{Untouched};
 ghost use Rattle.value_store.specs.Writes.{StandEither, MayAppend};
 ghost use Rattle.view_model.specs.Forest.{next_number};
 ghost use Rattle.view_model.specs.Calls.{directed, number_limit};
 ghost use Rattle.node_table.specs.Pairs.{AreShort};
-ghost use Rattle.mdb_core.specs.Stores.{Keeps, broken, is_failed, keys_of};
+ghost use Rattle.mdb_core.specs.Stores.{Keeps, broken, held_maps, is_failed, keys_of};
 ghost use Rattle.mdb_core.specs.Applies.{Applies, ApplyFails, MayNumber};
 
 use crate::fault::told;
+use crate::recording::record_commit;
+use crate::writing::write_told;
 use crate::{Db, DbFault, Digests, ViewId};
 use bit_keys::Id;
 use disk_world::Disk;
@@ -41,7 +45,7 @@ struct Next {
 impl Db {
     /// Lays a batch on the map: its number, and the root after it. Once it answers Ok, no crash loses it.
     ///
-    /// It takes all its memory before it writes.
+    /// It reads the values that the batch changes, for the history. It takes all its memory before it writes.
     pub fn apply<D: Disk, L: Ledger>(
         &mut self,
         alloc: Global,
@@ -52,13 +56,17 @@ impl Db {
         ensures applied { OnOk result (Applies self.old batch) }
         ensures fault { IfErr result (ApplyFails self.old batch) }
         ensures fails { IsErrOf result DbFault.Disk → self.new ≡ broken self.old }
-        ensures refused { IfErr result (λ fault. (fault ≡ DbFault.Disk → ⊥) → (self.new ≡ self.old) × (disk.new ≡ disk.old)) }
+        ensures refused { IfErr result (λ fault. (fault ≡ DbFault.Disk → ⊥) → (self.new ≡ self.old) × Untouched (D.words.seen disk.old) (D.words.seen disk.new) (D.words.moments disk.old) (D.words.moments disk.new)) }
+        ensures uncalled { IfErr result (λ fault. (fault ≡ DbFault.Disk → ⊥) → (fault ≡ DbFault.NoMemory → ⊥) → disk.new ≡ disk.old) }
         ensures works { OnOk result (is_failed self.new ≡ false) }
         ensures number { IfOk result (λ made. made.0.number ≡ next_number self.old.forest) }
         ensures views { OnOk result (self.new.forest ≡ directed self.old.forest) }
         ensures root { IfOk result (λ made. made.1 ≡ self.new.root) }
         ensures width { self.new.width ≡ self.old.width }
+        ensures limits { (self.new.history.commits ≡ self.old.history.commits) × (self.new.history.weight ≡ self.old.history.weight) }
         ensures contents { TellsContents D.words.tells → (m : Map) → Keeps self.old m (D.words.seen disk.old) → OnOk result (Keeps self.new (after_batch m batch) (D.words.seen disk.new)) }
+        ensures held { TellsContents D.words.tells → (m : Map) → Keeps self.old m (D.words.seen disk.old)
+            → OnOk result (held_maps self.new (after_batch m batch) ≡ held self.old.history.commits self.old.history.weight (after_batch m batch ∷ held_maps self.old m)) }
         ensures read_others { TellsContents D.words.tells → OthersStay self.old.values.journal.file (D.words.seen disk.old) (D.words.seen disk.new) }
         ensures synced { TellsImages D.words.tells → AreSynced (D.words.seen disk.old) (D.words.moments disk.old) → OnOk result (AreSynced (D.words.seen disk.new) (D.words.moments disk.new)) }
         ensures left { TellsImages D.words.tells → (m : Map) → Keeps self.old m (D.words.seen disk.old) → AreSynced (D.words.seen disk.old) (D.words.moments disk.old)
@@ -77,12 +85,13 @@ impl Db {
         if make_room(&mut self.views, &mut self.roots).is_err() {
             return Err(DbFault::NoMemory);
         }
-        match self.values.write(alloc, disk, &batch) {
-            Ok(()) => {
+        match write_told(alloc, disk, &mut self.values, &batch, self.history.limit()) {
+            Ok(deltas) => {
                 let Next { digests, root } = next;
                 self.digests = digests;
                 self.root = root;
                 self.nodes = None;
+                record_commit(&mut self.history, deltas, root);
                 let id = self.views.direct();
                 self.roots.push_reserved(root);
                 Ok((id, root))

@@ -13,15 +13,19 @@ mod naming;
 mod opening;
 mod proposing;
 mod reading;
+mod recalling;
+mod recording;
 mod source;
 mod spot;
 mod store;
 #[cfg(test)]
 mod tests;
+mod writing;
 
+pub use change_history::{HistoryFault, Taken};
 pub use digests::{Digests, KeyBytes};
 pub use fault::DbFault;
 pub use source::DbSource;
-pub use spot::{Proposal, Spot};
+pub use spot::{Past, Proposal, Spot};
 pub use store::{At, Config, Db};
 pub use view_stack::{ViewId, ViewState};

@@ -10,6 +10,7 @@ ghost use Rattle.mdb_journal.specs.Moves.{AreSynced};
 ghost use Rattle.mdb_journal.specs.Opening.{Untouched};
 ghost use Rattle.value_store.specs.Values.{Keeps as ValuesKeep};
 ghost use Rattle.store_model.specs.Openings.{Opens};
+ghost use Rattle.change_history.specs.Histories.{no_commits};
 ghost use Rattle.view_model.specs.Forest.{no_views};
 ghost use Rattle.mdb_core.specs.Stores.{AreDigests, Keeps, is_failed};
 ghost use Rattle.mdb_core.specs.Opens.{Opened, OpenFails};
@@ -17,6 +18,7 @@ ghost use Rattle.mdb_core.specs.Opens.{Opened, OpenFails};
 use crate::fault::told;
 use crate::{Config, Db, DbFault, Digests};
 use bit_keys::Branch;
+use change_history::History;
 use disk_world::Disk;
 use std::alloc::Global;
 use value_store::ValueStore;
@@ -34,6 +36,7 @@ impl Db {
         requires weight { config.weight ≤ 268435456 }
         ensures opened { TellsContents D.words.tells → IfOk result (Opened (width_of branch) (D.words.seen disk.old) (D.words.seen disk.new)) }
         ensures works { IfOk result (λ d. (is_failed d ≡ false) × (d.forest ≡ no_views) × (d.width ≡ width_of branch)) }
+        ensures history { IfOk result (λ d. d.history ≡ no_commits config.commits config.weight d.root) }
         ensures refused { TellsContents D.words.tells → IfErr result (OpenFails (width_of branch) (D.words.seen disk.old)) }
         ensures kept { TellsContents D.words.tells → (m : Map) → Stands limits (D.words.seen disk.old) m → IsErrOf result DbFault.NoMemory → Stands limits (D.words.seen disk.new) m }
         ensures read_others { TellsContents D.words.tells → (file : ℕ) → 2 ≤ file → D.words.seen disk.new file ≡ D.words.seen disk.old file }
@@ -44,24 +47,25 @@ impl Db {
         ensures later { D.words.faults disk.old ≤ D.words.faults disk.new }
         ensures disk { IsErrOf result DbFault.Disk → Rose (D.words.faults disk.old) (D.words.faults disk.new) }
     {
-        let _ = config;
         match ValueStore::open(alloc, disk, branch) {
-            Ok(values) => rooted(alloc, disk, branch, values),
+            Ok(values) => rooted(alloc, disk, branch, config, values),
             Err(fault) => Err(told(fault)),
         }
     }
 }
 
-/// The store of these values, with the digests of all of them and the root.
+/// The store of these values, with the digests of all of them, the root, and no commit yet.
 fn rooted<D: Disk>(
     alloc: Global,
     disk: &mut D,
     branch: Branch,
+    config: Config,
     mut values: ValueStore,
 ) -> Result<Db, DbFault>
     requires works { values.journal.failed ≡ false }
     ensures keeps { TellsContents D.words.tells → (m : Map) → ValuesKeep values m (D.words.seen disk.old) → IfOk result (λ d. Keeps d m (D.words.seen disk.new)) }
     ensures works { IfOk result (λ d. (is_failed d ≡ false) × (d.forest ≡ no_views) × (d.width ≡ width_of branch)) }
+    ensures history { IfOk result (λ d. d.history ≡ no_commits config.commits config.weight d.root) }
     ensures fault { IfErr result (λ fault. (fault ≡ DbFault.Disk) ⊎ (fault ≡ DbFault.NoMemory)) }
     ensures untouched { Untouched (D.words.seen disk.old) (D.words.seen disk.new) (D.words.moments disk.old) (D.words.moments disk.new) }
     ensures later { D.words.faults disk.old ≤ D.words.faults disk.new }
@@ -71,14 +75,19 @@ fn rooted<D: Disk>(
         Ok(digests) => digests,
         Err(fault) => return Err(fault),
     };
-    match digests.root(alloc, branch) {
-        Ok(root) => Ok(Db {
+    let root = match digests.root(alloc, branch) {
+        Ok(root) => root,
+        Err(_) => return Err(DbFault::NoMemory),
+    };
+    match History::new(alloc, config.commits, config.weight, root) {
+        Ok(history) => Ok(Db {
             values,
             digests,
             root,
             branch,
             views: ViewStack::new(alloc),
             roots: Vec::new(alloc),
+            history,
             nodes: None,
         }),
         Err(_) => Err(DbFault::NoMemory),

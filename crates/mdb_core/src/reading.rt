@@ -108,9 +108,10 @@ impl Db {
         ensures later { D.words.faults disk.old ≤ D.words.faults disk.new }
         ensures disk { IsErrOf result DbFault.Disk → Rose (D.words.faults disk.old) (D.words.faults disk.new) }
     {
-        match self.find(at) {
+        match self.find(alloc, at) {
             Ok(Found::Store) => self.get_stored(alloc, disk, key),
             Ok(Found::View(id)) => self.get_proposed(alloc, disk, id, key),
+            Ok(Found::Past(undo)) => self.get_past(alloc, disk, &undo, key),
             Ok(Found::Empty) => Ok(None),
             Err(fault) => Err(fault),
         }
@@ -136,6 +137,31 @@ impl Db {
         match self.values.get(alloc, disk, key) {
             Ok(value) => Ok(value),
             Err(fault) => Err(told(fault)),
+        }
+    }
+
+    /// The value that a past map has at a key, to which a batch leads back.
+    pub(crate) fn get_past<D: Disk>(
+        &mut self,
+        alloc: Global,
+        disk: &mut D,
+        undo: &Batch,
+        key: &[u8],
+    ) -> Result<Option<Vec<u8>>, DbFault>
+        requires works { is_failed self.old ≡ false }
+        ensures value { TellsContents D.words.tells → (m : Map) → Keeps self.old m (D.words.seen disk.old)
+            → IfOk result (λ value. option_map (λ v. v.items) value ≡ map_of.get (after_batch m undo.now) key.now) }
+        ensures fault { IfErr result (λ fault. (fault ≡ DbFault.Disk) ⊎ (fault ≡ DbFault.NoMemory)) }
+        ensures fails { IsErrOf result DbFault.Disk → self.new ≡ broken self.old }
+        ensures stays { (IsErrOf result DbFault.Disk → ⊥) → self.new ≡ self.old }
+        ensures untouched { Untouched (D.words.seen disk.old) (D.words.seen disk.new) (D.words.moments disk.old) (D.words.moments disk.new) }
+        ensures later { D.words.faults disk.old ≤ D.words.faults disk.new }
+        ensures disk { IsErrOf result DbFault.Disk → Rose (D.words.faults disk.old) (D.words.faults disk.new) }
+    {
+        match value_in(alloc, undo, key) {
+            Ok(Some(value)) => Ok(value),
+            Ok(None) => self.get_stored(alloc, disk, key),
+            Err(_) => Err(DbFault::NoMemory),
         }
     }
 
@@ -196,12 +222,26 @@ impl Db {
         let mut left = ids.len();
         while left > 0 {
             left -= 1;
-            if let Some(change) = change_at(self.views.batch(ids[left]), key) {
-                let Change { key: _, value } = change.copy(alloc)?;
+            if let Some(value) = value_in(alloc, self.views.batch(ids[left]), key)? {
                 return Ok(Some(value));
             }
         }
         Ok(None)
+    }
+}
+
+/// What a batch makes of a key; None where it leaves it alone.
+fn value_in(alloc: Global, batch: &Batch, key: &[u8]) -> Result<Option<Option<Vec<u8>>>, NoMemory>
+    ensures { (m : Map) → IfOk result (λ found. MatchOption found
+        (map_of.get (after_batch m batch.now) key.now ≡ map_of.get m key.now)
+        (λ value. map_of.get (after_batch m batch.now) key.now ≡ option_map (λ v. v.items) value)) }
+{
+    match change_at(batch, key) {
+        None => Ok(None),
+        Some(change) => {
+            let Change { key: _, value } = change.copy(alloc)?;
+            Ok(Some(value))
+        }
     }
 }
 

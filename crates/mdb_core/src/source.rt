@@ -4,21 +4,22 @@ ghost use Rattle.std.specs.FinMap as map_of;
 ghost use Rattle.disk_model.specs.Words.{TellsContents};
 ghost use Rattle.trie_model.specs.Maps.{Map, map_digests};
 ghost use Rattle.trie_model.specs.Table.{table};
+ghost use Rattle.batch_model.specs.Batch.{after_batch};
 ghost use Rattle.view_model.specs.Forest.{Live, state};
 ghost use Rattle.view_model.specs.Maps.{view_map};
 ghost use Rattle.trie_items.specs.Sources.{HasReason, first_key, next_key, row_of};
 ghost use Rattle.mdb_journal.specs.Opening.{Untouched};
 ghost use Rattle.mdb_core.specs.Stores.{Keeps, is_failed};
-ghost use Rattle.mdb_core.specs.Places.{GetFails, MayRead, map_at};
+ghost use Rattle.mdb_core.specs.Places.{GetFails, MayRead, Speaks, map_at};
 ghost use Rattle.mdb_core.specs.Spots.{IsSpotOf, keys_at};
 ghost use Rattle.mdb_core.specs.Reads.{Reads, source_answer};
 
 use crate::naming::Found;
-use crate::spot::{Proposal, Spot};
+use crate::spot::{Past, Proposal, Spot};
 use crate::{At, Db, DbFault, ViewId};
 use bit_keys::Key;
 use disk_world::Disk;
-use mdb_base::NoMemory;
+use mdb_base::{Batch, NoMemory};
 use node_codec::Node;
 use node_table::NodeTable;
 use std::alloc::Global;
@@ -67,10 +68,10 @@ impl<'b, D: Disk> NodeSource for DbSource<'b, D> {
 impl Db {
     /// The spot of a place, for a source. Nothing is read or written.
     ///
-    /// It makes the nodes of the map: those of the store's own map once after each commit, those of a
-    /// view each time.
+    /// It makes the nodes of the map: those of the store's own map once after each commit, those of a view or of a past
+    /// map each time.
     pub fn source<D: Disk>(&mut self, alloc: Global, disk: &mut D, at: At) -> Result<Spot, DbFault>
-        ensures spot { (m : Map) → self.old.digests ≡ map_digests m → IfOk result (λ spot. IfSome (map_at self.old m at) (IsSpotOf self.new m spot)) }
+        ensures spot { (m : Map) → Speaks self.old m at → IfOk result (λ spot. IfSome (map_at self.old m at) (IsSpotOf self.new m spot)) }
         ensures may { OnOk result (MayRead self.old at) }
         ensures fault { IfErr result (GetFails self.old at) }
         ensures not_disk { IsErrOf result DbFault.Disk → ⊥ }
@@ -78,9 +79,10 @@ impl Db {
         ensures disk { disk.new ≡ disk.old }
     {
         let _ = disk;
-        let spot = match self.find(at) {
+        let spot = match self.find(alloc, at) {
             Ok(Found::Store) => self.store_spot(alloc),
             Ok(Found::View(id)) => self.view_spot(alloc, id),
+            Ok(Found::Past(undo)) => self.past_spot(alloc, undo),
             Ok(Found::Empty) => Ok(Spot::Empty),
             Err(fault) => return Err(fault),
         };
@@ -121,6 +123,19 @@ impl Db {
         Ok(Spot::View(Proposal { id, digests, nodes }))
     }
 
+    fn past_spot(&self, alloc: Global, undo: Batch) -> Result<Spot, NoMemory>
+        ensures { (m : Map) → self.now.digests ≡ map_digests m → IfOk result (λ spot. IsSpotOf self.now m spot (after_batch m undo)) }
+    {
+        let mut digests = self.digests.copy(alloc)?;
+        digests.lay(alloc, &undo)?;
+        let nodes = digests.nodes(alloc, self.branch)?;
+        Ok(Spot::Past(Past {
+            undo,
+            digests,
+            nodes,
+        }))
+    }
+
     /// The key of the root node in the map of a spot.
     fn root_key_at(&mut self, alloc: Global, spot: &Spot) -> Result<Option<Key>, NoMemory>
         ensures key { (m : Map) (n : Map) → self.old.digests ≡ map_digests m → IsSpotOf self.old m spot.now n → IfOk result (λ key. key ≡ first_key (table self.old.width n)) }
@@ -134,6 +149,7 @@ impl Db {
                 key
             }
             Spot::View(proposal) => root_key_in(alloc, &proposal.nodes),
+            Spot::Past(past) => root_key_in(alloc, &past.nodes),
             Spot::Empty => Ok(None),
         }
     }
@@ -151,6 +167,7 @@ impl Db {
                 node
             }
             Spot::View(proposal) => node_in(alloc, &proposal.nodes, key),
+            Spot::Past(past) => node_in(alloc, &past.nodes, key),
             Spot::Empty => Ok(None),
         }
     }
@@ -172,8 +189,29 @@ impl Db {
         match spot {
             Spot::Store => answered(self.get(alloc, disk, At::Store, key)),
             Spot::View(proposal) => answered(self.get(alloc, disk, At::View(proposal.id), key)),
+            Spot::Past(past) => self.past_value(alloc, disk, &past.undo, key),
             Spot::Empty => Ok(None),
         }
+    }
+
+    /// The value of a key in a past map, to which a batch leads back.
+    fn past_value<D: Disk>(
+        &mut self,
+        alloc: Global,
+        disk: &mut D,
+        undo: &Batch,
+        key: &[u8],
+    ) -> Result<Option<Vec<u8>>, SourceFault>
+        ensures value { TellsContents D.words.tells → (m : Map) → Keeps self.old m (D.words.seen disk.old)
+            → IfOk result (λ value. option_map (λ v. v.items) value ≡ map_of.get (after_batch m undo.now) key.now) }
+        ensures reads { Reads self.old self.new }
+        ensures untouched { Untouched (D.words.seen disk.old) (D.words.seen disk.new) (D.words.moments disk.old) (D.words.moments disk.new) }
+        ensures reason { HasReason (D.words.faults disk.old) (D.words.faults disk.new) (is_failed self.old) (is_failed self.new) result }
+    {
+        if self.values.failed() {
+            return Err(SourceFault::Failed);
+        }
+        answered(self.get_past(alloc, disk, undo, key))
     }
 
     /// The least key at or above that one, or above it where `past`, in the map of a spot.
@@ -189,6 +227,7 @@ impl Db {
         match spot {
             Spot::Store => self.digests.next(alloc, from, past),
             Spot::View(proposal) => proposal.digests.next(alloc, from, past),
+            Spot::Past(former) => former.digests.next(alloc, from, past),
             Spot::Empty => Ok(None),
         }
     }

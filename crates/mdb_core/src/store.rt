@@ -5,13 +5,14 @@ ghost use Rattle.mdb_core.specs.Stores.{is_failed};
 
 use crate::{DbFault, Digests, ViewId};
 use bit_keys::{Branch, Id};
+use change_history::History;
 use disk_world::Disk;
 use node_table::NodeTable;
 use std::marker::Model;
 use value_store::ValueStore;
 use view_stack::ViewStack;
 
-/// How a store is kept. In this form of the store nothing of it has an effect.
+/// How a store is kept. In this form of the store `cache` has no effect.
 #[derive(Clone, Copy, Debug, PartialEq, Eq)]
 pub struct Config {
     /// How many nodes are kept in memory, 1 to 65,536.
@@ -29,12 +30,12 @@ pub enum At {
     Store,
     /// The map of a live view.
     View(ViewId),
-    /// The map with this root. It is that of the store, or, where that one has another root, by 32
-    /// zeros the empty map.
+    /// The latest map with this root of those that the store holds. Where none of them has it, 32 zeros name the empty
+    /// map.
     Root(Id),
 }
 
-/// A map on a disk, with its root, and the views on it. It belongs to the disk on which it was opened.
+/// A map on a disk, with its root, the latest commits, and the views on it. It belongs to the disk on which it was opened.
 ///
 /// Its root is that of the map whose digests it holds, and the root of each live view that of the view's map.
 #[derive(Drop)]
@@ -46,6 +47,8 @@ pub struct Db {
     pub(crate) views: ViewStack,
     /// The root of each view when it was made, in the order of their numbers.
     pub(crate) roots: Vec<Id>,
+    /// What the latest commits since the opening changed.
+    pub(crate) history: History,
     /// The nodes of the map's trie, once they were asked for, until the next commit.
     pub(crate) nodes: Option<NodeTable>,
 }
@@ -56,9 +59,9 @@ impl Model for Db {
 
     ghost Value = { DbState };
 
-    ghost view = { λ d. record { values = d.values; digests = d.digests; width = width_of d.branch; root = d.root; forest = d.views.forest; roots = d.roots.items } };
+    ghost view = { λ d. record { values = d.values; digests = d.digests; width = width_of d.branch; root = d.root; forest = d.views.forest; roots = d.roots.items; history = d.history } };
 
-    ghost invariant = { λ d. IsStore (record { values = d.values; digests = d.digests; width = width_of d.branch; root = d.root; forest = d.views.forest; roots = d.roots.items }) d.nodes };
+    ghost invariant = { λ d. IsStore (record { values = d.values; digests = d.digests; width = width_of d.branch; root = d.root; forest = d.views.forest; roots = d.roots.items; history = d.history }) d.nodes };
 }
 
 impl Db {

@@ -1,9 +1,11 @@
 ghost use Rattle.std.specs.Prelude.{◌≡◌, ◌<◌};
 
-use crate::{At, Config, Db, DbFault, DbSource, Digests, KeyBytes, Spot, ViewId, ViewState};
-use bit_keys::{Branch, Id};
+use crate::{
+    At, Config, Db, DbFault, DbSource, Digests, HistoryFault, KeyBytes, Spot, ViewId, ViewState,
+};
+use bit_keys::{Branch, Id, Range};
 use disk_world::Disk;
-use mdb_base::{Batch, BatchFault};
+use mdb_base::{Batch, BatchFault, NoMemory};
 use mem_world::{FlatDisk, MemDisk, Pick};
 use sha2::{Digest, Sha256};
 use std::alloc::Global;
@@ -631,9 +633,91 @@ fn a_source_tells_the_map_of_its_place(rt: HostRuntime) -> Result<(), Fail> {
         assert_told(&rt, alloc, &mut disk, &mut db, at, want)?;
     }
     db.commit(alloc, &mut disk, view)?;
-    for at in [At::Store, At::Root(root_of_both())] {
-        assert_told(&rt, alloc, &mut disk, &mut db, at, both)?;
+    for (at, want) in [
+        (At::Store, both),
+        (At::Root(root_of_both()), both),
+        (At::Root(root), one),
+        (At::Root(EMPTY), none),
+    ] {
+        assert_told(&rt, alloc, &mut disk, &mut db, at, want)?;
     }
+    Ok(())
+}
+
+/// Where commits may weigh three bytes, one of four lets the maps before it go, and the next one goes on from there.
+fn assert_let_go(rt: &impl Abort, alloc: Global) -> Result<(), Fail> {
+    let mut disk = MemDisk::new(alloc);
+    let config = Config {
+        cache: 1024,
+        commits: 16,
+        weight: 3,
+    };
+    let mut db = Db::open(alloc, &mut disk, Branch::B16, config)?;
+    // What a commit changes, and the root before it where that is held.
+    let rows: [(&[(&[u8], Option<&[u8]>)], Option<Id>); 3] = [
+        (&[(b"k", Some(b"v"))], Some(EMPTY)),
+        (&[(b"k", None), (b"l", Some(b"x"))], None),
+        (&[(b"k", Some(b"v"))], Some(root_of_one(0x6c, 0x78))),
+    ];
+    for (changes, before) in rows {
+        let batch = batch_of(alloc, changes)?;
+        applied(alloc, &mut disk, &mut db, batch)?;
+        assert_eq!(rt; db.back(1), before);
+        assert_eq!(rt; db.back(2), None);
+    }
+    Ok(())
+}
+
+#[test]
+fn past_maps_are_held_and_told_apart(rt: HostRuntime) -> Result<(), Fail> {
+    let alloc = rt.alloc();
+    let mut disk = MemDisk::new(alloc);
+    let mut db = with_view(alloc, &mut disk)?;
+    db.commit(alloc, &mut disk, ViewId { number: 2 })?;
+    let last = batch_of(alloc, &[(b"k", None), (b"l", Some(b"x"))])?;
+    applied(alloc, &mut disk, &mut db, last)?;
+    let now = root_of_one(0x6c, 0x78);
+    // The root so many commits back, and the values that its map has at 6b and at 6c.
+    let rows = [
+        (now, None, Some(0x78)),
+        (root_of_both(), Some(0x76), Some(0x77)),
+        (root_of_one(0x6b, 0x76), Some(0x76), None),
+        (EMPTY, None, None),
+    ];
+    let mut commits = 0u64;
+    for (root, first, second) in rows {
+        assert_eq!(rt; db.back(commits), Some(root));
+        assert!(rt; db.held(&root), "{commits} back");
+        for (key, want) in [(0x6b, first), (0x6c, second)] {
+            let found = db.get(alloc, &mut disk, At::Root(root), &[key]);
+            assert_eq!(rt; found.map(one_byte), Ok(want), "{commits} back");
+        }
+        commits = commits.saturating_add(1);
+    }
+    assert_eq!(rt; db.back(commits), None);
+    assert!(rt; !db.held(&root_of_one(0x6b, 0x77)));
+    assert_let_go(&rt, alloc)
+}
+
+#[test]
+fn changes_are_told_from_a_held_map_to_a_later_one(rt: HostRuntime) -> Result<(), Fail> {
+    let alloc = rt.alloc();
+    let mut disk = MemDisk::new(alloc);
+    let mut db = with_view(alloc, &mut disk)?;
+    db.commit(alloc, &mut disk, ViewId { number: 2 })?;
+    let (former, now) = (root_of_one(0x6b, 0x76), root_of_both());
+    let Some(range) = Range::new(None, None) else {
+        return Err(NoMemory.into());
+    };
+    let taken = db.changes(alloc, &former, &now, &range, 9, 99)?;
+    assert!(rt; !taken.cut);
+    assert_eq!(rt; taken.changes.len(), 1);
+    for change in &taken.changes {
+        assert_eq!(rt; change.key.as_slice(), b"l".as_slice());
+        assert_eq!(rt; change.value.as_deref(), Some(b"w".as_slice()));
+    }
+    let back = db.changes(alloc, &now, &former, &range, 9, 99).err();
+    assert_eq!(rt; back, Some(HistoryFault::NoStart));
     Ok(())
 }
 

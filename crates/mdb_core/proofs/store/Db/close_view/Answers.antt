@@ -9,4 +9,4 @@ invariant_of-self c = closed_or_not _ c.args.id.number c.close.result c.close.ne
 pub returns-clause-keeps : goal.returns-clause-keeps
 returns-clause-keeps c = λ m files k.
     let before = subst (λ (s : DbState). Keeps s m files) (sym c.self.view_is) k in
-    kept _ m files (invariant_of-self c) before.values before.digests
+    kept _ m files (invariant_of-self c) before.values before.digests before.history

@@ -1,6 +1,5 @@
-use Rattle.std.proofs.Common.{◌≡◌, suc, ◌-◌, arith, take, get_or, sym, ap, ◌∙◌, subst, Some}
+use Rattle.std.proofs.Common.{◌≡◌, suc, ◌-◌, arith, take, get_or, option_map, sym, ap, ◌∙◌, subst, Some}
 use Rattle.std.specs.FinMap.{get}
-use Rattle.batch_model.specs.Batch.{Change}
 use Rattle.view_model.specs.Forest.{Live, state}
 use Rattle.view_model.specs.Maps.{changes_of, laid}
 use Rattle.view_stack.specs.declared.state.ViewId.{ViewId}
@@ -26,8 +25,9 @@ returns-in-Some c = λ m.
     let f = c.args.self.now.forest in
     let batch = c.batch.ensures ∙ ap (λ (s : DbState). changes_of s.forest id.number) c.self.view_is in
     let e : left ≡ suc i = omega (arith, c.loop-left-test.true) in
-    let value = sym (ap (λ (x : Change). x.value) (c.value.view_is ∙ c.in_ok-value.ensures)) in
-    told_by f m c.args.ids.now i left nobody c.args.key.now c.batch.result.now c.in-Some.change.now.value e c.loop-left.invariant.within (c.loop-left.invariant.rest m) batch (c.in-Some.ensures (laid f m (numbers (take i c.args.ids.now)))) ∙ value
+    let front = laid f m (numbers (take i c.args.ids.now)) in
+    let told = rw c.in-Some.is at (c.in_ok-value.ensures front) in
+    told_by f m c.args.ids.now i left nobody c.args.key.now c.batch.result.now (option_map (λ v. v.items) c.in-Some.value) e c.loop-left.invariant.within (c.loop-left.invariant.rest m) batch told
 
 pub loop-left-preserved : goal.loop-left-preserved
 loop-left-preserved c =
@@ -42,5 +42,5 @@ loop-left-preserved c =
       within = omega (arith, c.loop-left.invariant.within);
       rest = λ m.
           let front = laid f m (numbers (take i c.args.ids.now)) in
-          told_by f m c.args.ids.now i left nobody c.args.key.now c.batch.result.now (get front c.args.key.now) e c.loop-left.invariant.within (c.loop-left.invariant.rest m) batch (c.in_default.ensures front);
+          told_by f m c.args.ids.now i left nobody c.args.key.now c.batch.result.now (get front c.args.key.now) e c.loop-left.invariant.within (c.loop-left.invariant.rest m) batch (rw c.in_default.is at (c.in_ok-value.ensures front));
     }

@@ -1,7 +1,7 @@
 use Rattle.std.proofs.Common.{◌≡◌, ap, sym, ◌∙◌, subst, IfOk, option_map}
 use Rattle.trie_items.specs.Sources.{next_key}
 use Rattle.mdb_core.specs.Stores.{DbState, keys_of}
-use Rattle.mdb_core.specs.Proposed.{ProposalState}
+use Rattle.mdb_core.specs.Proposed.{ProposalState, PastState}
 use Rattle.mdb_core.specs.Tidy.{tidy}
 use Rattle.mdb_core.specs.Spots.{keys_at}
 use Rattle.mdb_core.proofs.EmptyMaps.{tidy-digests}
@@ -16,3 +16,8 @@ pub returns-in-View : goal.returns-in-View
 returns-in-View c =
     let keys = sym (tidy-digests c.proposal.inside.digests c.proposal.invariant) ∙ (ap (λ (p : ProposalState). tidy (keys_of p.digests)) c.proposal.view_is ∙ ap (keys_at c.args.self.now) (sym c.in-View.is)) in
     subst (λ ks. IfOk c.next-in-View.result (λ key. option_map (λ k. k.items) key ≡ next_key c.args.past c.args.from.now ks)) keys c.next-in-View.ensures
+
+pub returns-in-Past : goal.returns-in-Past
+returns-in-Past c =
+    let keys = sym (tidy-digests c.former.inside.digests c.former.invariant) ∙ (ap (λ (p : PastState). tidy (keys_of p.digests)) c.former.view_is ∙ ap (keys_at c.args.self.now) (sym c.in-Past.is)) in
+    subst (λ ks. IfOk c.next-in-Past.result (λ key. option_map (λ k. k.items) key ≡ next_key c.args.past c.args.from.now ks)) keys c.next-in-Past.ensures

@@ -15,7 +15,7 @@ invariant_of-self-in-Ok-make g c =
 pub returns-in-Ok-make-clause-keeps : goal.returns-in-Ok-make-clause-keeps
 returns-in-Ok-make-clause-keeps g c = λ m files k.
     let before = subst (λ (s : DbState). Keeps s m files) (sym c.self.view_is) k in
-    kept _ m files (invariant_of-self-in-Ok-make g c) before.values before.digests
+    kept _ m files (invariant_of-self-in-Ok-make g c) before.values before.digests before.history
 
 pub returns-in-Ok-make-clause-root : goal.returns-in-Ok-make-clause-root
 returns-in-Ok-make-clause-root g c = λ m e.
