@@ -27,7 +27,8 @@ use Rattle.mdb_core.specs.declared.fault.DbFault.{DbFault}
 use Rattle.mdb_core.specs.declared.fault.DbFault.TheVariants.{Disk as DiskFault, NotAStore, BranchDiffers, Damaged, Failed, Unknown, NotLive, NotHeld, TooMany, TooDeep, TooHeavy, TooLarge, NotParent, Full, NoMemory as NoMemoryFault}
 use Rattle.script_run.specs.declared.end.SessionEnd.{SessionEnd}
 use Rattle.script_run.specs.Ends.{end_of, fault_end, cause_told, IsTextOf, StepCause}
-use Rattle.script_run.specs.Steps.{IsAt, IsMade, IsQuiet, RunsUnprinted, KeptUnprinted, KeptPrinting, played, session_of}
+use Rattle.session_model.specs.Named.{holds_next}
+use Rattle.script_run.specs.Steps.{holding_of, IsAt, IsMade, IsQuiet, RunsUnprinted, KeptUnprinted, KeptPrinting, played, session_of}
 use Rattle.script_run.proofs.Refusals.{words_told, refused_quiet}
 use Rattle.script_run.proofs.MadeLines.{made_text, unmade_text, Went}
 use Rattle.script_run.proofs.KeptFiles.{kept_leaves}
@@ -89,12 +90,12 @@ module _ (w : ℕ) (m : Map) (db : DbState) (batch : List Change) (files : Files
 
   -- a batch that was committed
   module _ (db' : DbState) (files' : Files) (a : Applies db batch) (keeps' : Keeps db' (after_batch m batch) files') (r : Result (String Global) SessionEnd) where
-    pub commit_made : (number : ℕ) (id : List ℕ) → number ≡ next_number db.forest → db'.forest ≡ directed db.forest → id ≡ db'.root → db'.width ≡ w → IsTextOf (commit_text number id) r → IfOk r (λ t. IsMade (or_limit (commit w here)) (string_bytes t) db' [] files')
-    commit_made number id number_is views root_is width of =
+    pub commit_made : (number : ℕ) (id : List ℕ) → number ≡ next_number db.forest → db'.forest ≡ directed db.forest → holding_of db' (after_batch m batch) ≡ holds_next (holding_of db m) (after_batch m batch) → id ≡ db'.root → db'.width ≡ w → IsTextOf (commit_text number id) r → IfOk r (λ t. IsMade (or_limit (commit w here)) (string_bytes t) db' [] files')
+    commit_made number id number_is views holds root_is width of =
         let same = root_is ∙ keeps'.roots.map ∙ ap (λ v. root v (after_batch m batch)) width in
         made_text (or_limit (commit w here)) (committed here) (commit_step w here) (commit_text number id) db' [] files' r of (applied a)
         (ap (λ n. commit_text n id) number_is ∙ ap (commit_text (next_number db.forest)) same)
-        (record { keeps_map = keeps'; pending_is = refl; views_are = views })
+        (record { keeps_map = keeps'; holding_is = holds; pending_is = refl; views_are = views })
 
     pub commit_unmade : (text : List ℕ) → IsTextOf text r → IfErr r (λ end. RunsUnprinted here (or_limit (commit w here)) files' (end_of end))
     commit_unmade text of =
@@ -149,11 +150,11 @@ module _ (w : ℕ) (m : Map) (db : DbState) (pending : List Change) (files : Fil
 
   -- a view that was committed
   module _ (db' : DbState) (files' : Files) (t : Takes db n) (keeps' : Keeps db' (taken_map there n) files') (r : Result (String Global) SessionEnd) where
-    pub take_made : (id : List ℕ) → db'.forest ≡ committed_by db.forest n → id ≡ db'.root → db'.width ≡ w → IsTextOf (taken_text n id) r → IfOk r (λ t. IsMade made (string_bytes t) db' pending files')
-    take_made id views root_is width of =
+    pub take_made : (id : List ℕ) → db'.forest ≡ committed_by db.forest n → holding_of db' (taken_map there n) ≡ holds_next (holding_of db m) (taken_map there n) → id ≡ db'.root → db'.width ≡ w → IsTextOf (taken_text n id) r → IfOk r (λ t. IsMade made (string_bytes t) db' pending files')
+    take_made id views holds root_is width of =
         let same = root_is ∙ keeps'.roots.map ∙ ap (λ v. root v (taken_map there n)) width in
         made_text made (taken there n) (take_step w there n) (taken_text n id) db' pending files' r of (taken_so t) (ap (taken_text n) same)
-        (record { keeps_map = keeps'; pending_is = refl; views_are = views })
+        (record { keeps_map = keeps'; holding_is = holds; pending_is = refl; views_are = views })
 
     pub take_unmade : (text : List ℕ) → IsTextOf text r → IfErr r (λ end. RunsUnprinted there made files' (end_of end))
     take_unmade text of =
@@ -183,7 +184,7 @@ module _ (w : ℕ) (m : Map) (db : DbState) (pending : List Change) (files : Fil
     Told fault = MatchOption (cause_told fault) (r ≡ Err (fault_end fault)) (λ cause. IsTextOf (refused_text cause) r)
 
     at_there : IsAt there db pending files
-    at_there = record { keeps_map = keeps; pending_is = refl; views_are = refl }
+    at_there = record { keeps_map = keeps; holding_is = refl; pending_is = refl; views_are = refl }
 
     refused_so : (fault : DbFault) (cause : List ℕ) → cause_told fault ≡ Some cause → take_refused db.forest n ≡ Some cause → Told fault → IsQuiet made r db pending files
     refused_so fault cause told why of = refused_quiet made there db pending files r cause (refused_view cause why) at_there (subst (λ (o : Option (List ℕ)). MatchOption o (r ≡ Err (fault_end fault)) (λ cause. IsTextOf (refused_text cause) r)) told of)

@@ -4,6 +4,7 @@ pub mod KeptSteps
 pub mod Stopping
 pub mod Parts
 pub mod Written
+pub mod HeldMaps
 pub mod MadeLines
 pub mod Refusals
 pub mod Commits

@@ -31,8 +31,9 @@ use Rattle.script_run.proofs.Stopping.{stopped_runs, refused_runs, memory_no_sto
 -- the session at which the code is
 pub session_is : (s : Session) (db : DbState) (pending : List Change) (files : Files) → IsAt s db pending files → session_of s.map db pending ≡ s
 session_is s db pending files at =
-    ap (λ views. let t : Session = record { map = s.map; views = views; pending = pending } in t) at.views_are
-    ∙ ap (λ cs. let t : Session = record { map = s.map; views = s.views; pending = cs } in t) at.pending_is
+    ap (λ holding. let t : Session = record { map = s.map; holding = holding; views = db.forest; pending = pending } in t) at.holding_is
+    ∙ ap (λ views. let t : Session = record { map = s.map; holding = s.holding; views = views; pending = pending } in t) at.views_are
+    ∙ ap (λ cs. let t : Session = record { map = s.map; holding = s.holding; views = s.views; pending = cs } in t) at.pending_is
 
 -- ---- its text is printed
 module _ (s : Session) (made : Result (Session × Step) Stop) (text : List ℕ) (db : DbState) (pending : List Change) (files : Files) (d : IsMade made text db pending files) where

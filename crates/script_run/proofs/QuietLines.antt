@@ -26,12 +26,12 @@ use Rattle.script_run.proofs.Stopping.{stopped_runs, refused_runs, memory_no_sto
 
 -- nothing is done
 pub skip_quiet : (m : Map) (db : DbState) (pending : List Change) (files : Files) (r : Result (String Global) SessionEnd) → Keeps db m files → IsTextOf [] r → IsQuiet (Ok (session_of m db pending, quiet)) r db pending files
-skip_quiet m db pending files r keeps of = text_quiet (Ok (session_of m db pending, quiet)) (session_of m db pending) db pending files r [] refl (record { keeps_map = keeps; pending_is = refl; views_are = refl }) of
+skip_quiet m db pending files r keeps of = text_quiet (Ok (session_of m db pending, quiet)) (session_of m db pending) db pending files r [] refl (record { keeps_map = keeps; holding_is = refl; pending_is = refl; views_are = refl }) of
 
 -- a change is pending more
 pub pend_quiet : (m : Map) (db : DbState) (pending pending' : List Change) (files : Files) (key : List ℕ) (value : Option (List ℕ)) (r : Result (String Global) SessionEnd) → Keeps db m files → OnOk r (pending' ≡ set_change pending (change_of key value)) → IsTextOf [] r
     → IsQuiet (Ok (pend (session_of m db pending) key value, quiet)) r db pending' files
-pend_quiet m db pending pending' files key value (Ok t) keeps is of = record { next = pend (session_of m db pending) key value; is = ap (λ (u : List ℕ). Ok (pend (session_of m db pending) key value, record { text = u; committed = None })) (sym of); at = record { keeps_map = keeps; pending_is = is; views_are = refl } }
+pend_quiet m db pending pending' files key value (Ok t) keeps is of = record { next = pend (session_of m db pending) key value; is = ap (λ (u : List ℕ). Ok (pend (session_of m db pending) key value, record { text = u; committed = None })) (sym of); at = record { keeps_map = keeps; holding_is = refl; pending_is = is; views_are = refl } }
 pend_quiet m db pending pending' files key value (Err end) keeps is of = subst (λ (e : SessionEnd). IsQuiet (Ok (pend (session_of m db pending) key value, quiet)) (Err e) db pending' files) (sym of) tt
 
 -- the disk was not called

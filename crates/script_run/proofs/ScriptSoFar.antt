@@ -9,7 +9,6 @@ use Rattle.disk_model.specs.Moments.{Meanwhile}
 use Rattle.disk_model.proofs.Meanwhile.{none_yet}
 use Rattle.trie_model.specs.Maps.{Map, limits}
 use Rattle.batch_model.specs.Batch.{Change}
-use Rattle.view_model.specs.Forest.{no_views}
 use Rattle.text_model.specs.Lines.{input_limit, is_overlong, lines_within}
 use Rattle.text_model.specs.Texts.{Input}
 use Rattle.store_model.specs.Journal.{Stands}
@@ -26,7 +25,7 @@ use Rattle.batch_text.specs.declared.reader.ReaderFault.TheVariants.{Read as Rea
 use Rattle.mdb_journal.specs.Moves.{AreSynced}
 use Rattle.mdb_core.specs.Stores.{DbState, Keeps}
 use Rattle.script_run.specs.Ends.{end_of, reader_end}
-use Rattle.script_run.specs.Steps.{IsAt, IsDone, PartRuns, AllDone, all_lines, played}
+use Rattle.script_run.specs.Steps.{IsAt, IsJustOpened, IsDone, PartRuns, AllDone, all_lines, played}
 use Rattle.run_model.proofs.PrintedText.{nothing, and_then, same_text, whole}
 use Rattle.mdb_core.proofs.KeptStores.{kept_stands}
 use Rattle.script_run.proofs.KeptFiles.{kept_leaves}
@@ -70,7 +69,7 @@ module _ (w : ℕ) (m : Map) (images : Type 0) (first : Place) where
     pub kept : images → Meanwhile (HasSteps m (play w 1 (start m) front).steps 0) first.disk.moments here.disk.moments
 
   -- before the first line
-  started : (bytes : List ℕ) (pending : List Change) (ahead : Stream) → Keeps first.db m first.disk.files → first.db.forest ≡ no_views → pending ≡ [] → ahead.held ≡ [] → ahead.allowed ≡ input_limit → ComesTo bytes 1 (record first { pending = pending }) ahead bytes
+  started : (bytes : List ℕ) (pending : List Change) (ahead : Stream) → Keeps first.db m first.disk.files → IsJustOpened first.db → pending ≡ [] → ahead.held ≡ [] → ahead.allowed ≡ input_limit → ComesTo bytes 1 (record first { pending = pending }) ahead bytes
   started bytes pending ahead keeps given none held allowed = record {
     front = [];
     goes = refl;
@@ -78,7 +77,7 @@ module _ (w : ℕ) (m : Map) (images : Type 0) (first : Place) where
     lines = rw (held, allowed) refl;
     fits = rw (held, allowed) refl;
     used = none_used w m bytes ahead held allowed;
-    at = record { keeps_map = keeps; pending_is = none; views_are = given };
+    at = record { keeps_map = keeps; holding_is = given.holding m; pending_is = none; views_are = given.views };
     text = nothing first.taken;
     kept = λ _. none_yet (HasSteps m [] 0) first.disk.moments first.disk.moments refl;
   }
@@ -223,7 +222,7 @@ module _ (w : ℕ) (m : Map) (images : Type 0) (first : Place) where
   SoFar (Some bytes) n here ahead (Some left) = ComesTo bytes n here ahead left
 
   -- before the first line
-  pub at_start : (left : Option (List ℕ)) (pending : List Change) (ahead : Stream) → Keeps first.db m first.disk.files → first.db.forest ≡ no_views → pending ≡ [] → ahead.held ≡ [] → ahead.allowed ≡ input_limit → SoFar left 1 (record first { pending = pending }) ahead left
+  pub at_start : (left : Option (List ℕ)) (pending : List Change) (ahead : Stream) → Keeps first.db m first.disk.files → IsJustOpened first.db → pending ≡ [] → ahead.held ≡ [] → ahead.allowed ≡ input_limit → SoFar left 1 (record first { pending = pending }) ahead left
   at_start None pending ahead keeps given none held allowed = tt
   at_start (Some bytes) pending ahead keeps given none held allowed = started bytes pending ahead keeps given none held allowed
 

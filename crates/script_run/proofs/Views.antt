@@ -1,5 +1,5 @@
 -- Lines on views that commit nothing.
-use Rattle.std.proofs.Common.{◌≡◌, ◌⊎◌, inl, inr, ℕ, ◌<◌, false, List, [], Option, Some, None, Result, Ok, Err, refl, sym, ◌∙◌, ap, subst}
+use Rattle.std.proofs.Common.{◌≡◌, ◌⊎◌, inl, inr, ℕ, ◌<◌, true, false, List, [], Option, Some, None, Result, Ok, Err, refl, sym, ◌∙◌, ap, subst}
 use Rattle.std.specs.Prelude.{IfOk, IfErr, OnOk, IsSome, MatchOption, String, string_bytes}
 use Rattle.std.specs.Global.{Global}
 use Rattle.std.proofs.lemmas.Bool.{le-ltb, lt-ltb}
@@ -17,16 +17,16 @@ use Rattle.view_model.specs.Calls.{Refusal, view_refused, parent_refused, make_r
 use Rattle.view_model.specs.Maps.{parent_map}
 use Rattle.session_model.specs.Limits.{payload_limit}
 use Rattle.session_model.specs.Refusals.{cause_words}
-use Rattle.session_model.specs.Session.{Session, Step, Stop, Limit, view_at, map_at, viewed, view_step, view, close, told, told_unless, told_state, told_proof, told_range, prints, refuses, or_limit}
+use Rattle.session_model.specs.Session.{Session, Step, Stop, Limit, view_at, map_at, viewed, view_step, view, close, told, told_unless, told_state, told_proof, told_range, told_changes, prints, refuses, or_limit}
 use Rattle.mdb_core.specs.Stores.{DbState, Keeps, is_failed}
-use Rattle.mdb_core.specs.Places.{Refuses, GetFails, fault_of_refusal, number_at, map_at as map_of_place}
+use Rattle.mdb_core.specs.Places.{Refuses, GetFails, fault_of_refusal, number_at, is_named}
 use Rattle.mdb_core.specs.declared.store.At.{At}
 use Rattle.mdb_core.specs.Proposals.{Makes, MakeFails}
 use Rattle.mdb_core.specs.declared.fault.DbFault.{DbFault}
 use Rattle.mdb_core.specs.declared.fault.DbFault.TheVariants.{Disk, NotAStore, BranchDiffers, Damaged, Failed, Unknown, NotLive, NotHeld, TooMany, TooDeep, TooHeavy, TooLarge, NotParent, Full, NoMemory}
 use Rattle.script_run.specs.declared.end.SessionEnd.{SessionEnd}
 use Rattle.script_run.specs.Ends.{fault_end, cause_told, IsTextOf}
-use Rattle.script_run.specs.Steps.{IsAt, IsQuiet, session_of}
+use Rattle.script_run.specs.Steps.{IsAt, IsQuiet, holding_of, session_of}
 use Rattle.script_run.specs.declared.end.SessionEnd.TheVariants.{Disk as failed_disk, NoMemory as no_memory}
 use Rattle.script_run.proofs.MadeLines.{Went}
 use Rattle.script_run.proofs.Refusals.{words_told, text_quiet, refused_quiet}
@@ -60,15 +60,15 @@ module _ (w : ℕ) (m : Map) (db : DbState) (batch : List Change) (place : Place
   map_is (OfView n) = refl
 
   pub view_made : (db' : DbState) (r : Result (String Global) SessionEnd) (number : ℕ) (id : List ℕ) → Makes db (view_at place) batch → number ≡ next_number db.forest → id ≡ root w (after_batch (parent_map db.forest m (view_at place)) batch)
-      → db'.forest ≡ made_of db.forest (view_at place) batch → Keeps db' m files → IsTextOf (view_text number id) r → IsQuiet made r db' [] files
-  view_made db' r number id a number_is id_is views keeps' of =
+      → db'.forest ≡ made_of db.forest (view_at place) batch → holding_of db' m ≡ holding_of db m → Keeps db' m files → IsTextOf (view_text number id) r → IsQuiet made r db' [] files
+  view_made db' r number id a number_is id_is views holds keeps' of =
       let same : view_text number id ≡ (view_step w here place).text = ap (λ n. view_text n id) number_is ∙ ap (view_text (next_number db.forest)) (id_is ∙ ap (λ k. root w (after_batch k batch)) (sym (map_is place))) in
-      text_quiet made (viewed here place) db' [] files r (view_step w here place).text (made_so a) (record { keeps_map = keeps'; pending_is = refl; views_are = views })
+      text_quiet made (viewed here place) db' [] files r (view_step w here place).text (made_so a) (record { keeps_map = keeps'; holding_is = holds; pending_is = refl; views_are = views })
       (subst (λ (t : List ℕ). IsTextOf t r) same of)
 
   module _ (r : Result (String Global) SessionEnd) where
     by_refusal : (fault : DbFault) → Refuses db (make_refused db.forest (view_at place) batch) fault → Told fault r → IsQuiet made r db [] files
-    by_refusal fault why of = refused_quiet made (record here { pending = [] }) db [] files r (cause_words why.1) (refused_so why.1 why.2) (record { keeps_map = keeps; pending_is = refl; views_are = refl }) (told_cause fault r why.1 why.3 of)
+    by_refusal fault why of = refused_quiet made (record here { pending = [] }) db [] files r (cause_words why.1) (refused_so why.1 why.2) (record { keeps_map = keeps; holding_is = refl; pending_is = refl; views_are = refl }) (told_cause fault r why.1 why.3 of)
 
     pub not_made : (fault : DbFault) → is_failed db ≡ false → MakeFails db (view_at place) batch fault → Told fault r → IsQuiet made r db [] files
     not_made Disk works why of = by_refusal Disk why of
@@ -101,7 +101,7 @@ module _ (m : Map) (db : DbState) (pending : List Change) (files : Files) (n : �
   close_done db' r res x is = go (view_refused db.forest n) refl
     where
       go : (o : Option Refusal) → view_refused db.forest n ≡ o → MatchOption o ((res ≡ Ok tt) × (db' ≡ record db { forest = closed db.forest n })) (λ r. (res ≡ Err (fault_of_refusal r)) × (db' ≡ db)) → Keeps db' m files → IsTextOf (closed_text n) r → IsQuiet closes r db' pending files
-      go None o h keeps' of = text_quiet closes (record there { views = closed db.forest n }) db' pending files r (closed_text n) (rw o refl) (record { keeps_map = keeps'; pending_is = refl; views_are = ap (λ (d : DbState). d.forest) h.1 }) of
+      go None o h keeps' of = text_quiet closes (record there { views = closed db.forest n }) db' pending files r (closed_text n) (rw o refl) (record { keeps_map = keeps'; holding_is = ap (λ (d : DbState). holding_of d m) h.1; pending_is = refl; views_are = ap (λ (d : DbState). d.forest) h.1 }) of
       go (Some why) o h keeps' of = let no : ⊥ = cc (sym is ∙ h.0) in absurd no
 
   pub close_refused : (db' : DbState) (r : Result (String Global) SessionEnd) (res : Result (Unit {0}) DbFault) (fault : DbFault) → res ≡ Err fault
@@ -115,7 +115,7 @@ module _ (m : Map) (db : DbState) (pending : List Change) (files : Files) (n : �
           let p : Err fault ≡ Err (fault_of_refusal why) = sym is ∙ h.0 in
           let same : fault ≡ fault_of_refusal why = cc p in
           subst (λ (d : DbState). IsQuiet closes r d pending files) (sym h.1)
-          (refused_quiet closes there db pending files r (cause_words why) (rw o refl) (record { keeps_map = keeps; pending_is = refl; views_are = refl }) (told_cause fault r why same of))
+          (refused_quiet closes there db pending files r (cause_words why) (rw o refl) (record { keeps_map = keeps; holding_is = refl; pending_is = refl; views_are = refl }) (told_cause fault r why same of))
 
 -- ---- lines that only read
 module _ (m : Map) (db : DbState) (pending : List Change) (files : Files) (keeps : Keeps db m files) where
@@ -123,7 +123,7 @@ module _ (m : Map) (db : DbState) (pending : List Change) (files : Files) (keeps
   reads step = Ok (session_of m db pending, step)
 
   read_quiet : (step : Step) → step ≡ prints step.text → (r : Result (String Global) SessionEnd) → IsTextOf step.text r → IsQuiet (reads step) r db pending files
-  read_quiet step is r of = text_quiet (reads step) (session_of m db pending) db pending files r step.text (ap reads is) (record { keeps_map = keeps; pending_is = refl; views_are = refl }) of
+  read_quiet step is r of = text_quiet (reads step) (session_of m db pending) db pending files r step.text (ap reads is) (record { keeps_map = keeps; holding_is = refl; pending_is = refl; views_are = refl }) of
 
   state_prints : (n : ℕ) (o : Option ViewState) → told_state n o ≡ prints (told_state n o).text
   state_prints n None = refl
@@ -147,7 +147,7 @@ module _ (m : Map) (db : DbState) (pending : List Change) (files : Files) (keeps
   pub got : (step : Step) → step ≡ prints step.text → (db' : DbState) (files' : Files) (old now : Moments) (rose : Type 0) (r : Result (String Global) SessionEnd) → IfOk r (λ t. string_bytes t ≡ step.text) → IfErr r (λ end. (end ≡ no_memory) ⊎ ((end ≡ failed_disk) × rose))
       → OnOk r (db' ≡ db) → files' ≡ files → now ≡ old → Went m (reads step) Disk r db' pending files' old now
   got step is db' files' old now rose (Ok t) text end stays same still =
-      let at = subst (λ (d : DbState). IsAt (session_of m db pending) d pending files') (sym stays) (record { keeps_map = subst (λ (f : Files). Keeps db m f) (sym same) keeps; pending_is = refl; views_are = refl }) in
+      let at = subst (λ (d : DbState). IsAt (session_of m db pending) d pending files') (sym stays) (record { keeps_map = subst (λ (f : Files). Keeps db m f) (sym same) keeps; holding_is = refl; pending_is = refl; views_are = refl }) in
       inr (record {
         quiet = text_quiet (reads step) (session_of m db pending) db' pending files' (Ok t) step.text (ap reads is) at text;
         stands = subst (λ (f : Files). Stands limits f m) (sym same) (kept_stands db m files keeps);
@@ -177,10 +177,12 @@ module _ (m : Map) (db : DbState) (pending : List Change) (files : Files) (keeps
   range_got None db' files' old now rose r text = got (told_range None) refl db' files' old now rose r text
   range_got (Some bytes) db' files' old now rose r text = got (told_range (Some bytes)) refl db' files' old now rose r text
 
--- ---- values that are read
-pub some_map : {o : Option Map} {m : Map} → o ≡ Some m → IsSome o
-some_map is = rw is refl
+  pub changes_got : (found : Option (List ℕ)) (db' : DbState) (files' : Files) (old now : Moments) (rose : Type 0) (r : Result (String Global) SessionEnd) → IfOk r (λ t. string_bytes t ≡ (told_changes found).text) → IfErr r (λ end. (end ≡ no_memory) ⊎ ((end ≡ failed_disk) × rose))
+      → OnOk r (db' ≡ db) → files' ≡ files → now ≡ old → Went m (reads (told_changes found)) Disk r db' pending files' old now
+  changes_got None db' files' old now rose r text = got (told_changes None) refl db' files' old now rose r text
+  changes_got (Some bytes) db' files' old now rose r text = got (told_changes (Some bytes)) refl db' files' old now rose r text
 
+-- ---- values that are read
 module _ (m : Map) (db : DbState) (place : PlaceWord) (key : List ℕ) where
   abbrev value_told : List ℕ
   value_told = (told (session_of m db []) place (λ k. value_text (map_of.get k key))).text
@@ -213,19 +215,19 @@ module _ (m : Map) (db : DbState) (place : PlaceWord) (key : List ℕ) where
         go (Err end) of = tt
         go (Ok t) of = let same : value_told ≡ refused_text (cause_words why.1) = ap (λ o. (told_unless o (value_text (map_of.get (map_at (session_of m db []) place) key))).text) refused in of ∙ sym same
 
-    pub value_unread : (fault : DbFault) → is_failed db ≡ false → ((n : Map) → db.digests ≡ map_digests n → IsSome (map_of_place db n at)) → db.digests ≡ map_digests m → GetFails db at fault → Told fault r → IfOk r (λ t. string_bytes t ≡ value_told)
-    value_unread Disk works there digests why of = ended r failed_disk of
-    value_unread NoMemory works there digests why of = ended r no_memory of
-    value_unread Failed works there digests why of = let no : ⊥ = cc (sym works ∙ why) in absurd no
-    value_unread NotHeld works there digests why of = let here = there m digests in let none = why.1 m digests in let no : ⊥ = cc (here, none) in absurd no
-    value_unread (NotAStore file) works there digests why of = not_admitted (NotAStore file) why of
-    value_unread (BranchDiffers kept asked) works there digests why of = not_admitted (BranchDiffers kept asked) why of
-    value_unread (Damaged file place) works there digests why of = not_admitted (Damaged file place) why of
-    value_unread Unknown works there digests why of = not_admitted Unknown why of
-    value_unread (NotLive x) works there digests why of = not_admitted (NotLive x) why of
-    value_unread TooMany works there digests why of = not_admitted TooMany why of
-    value_unread TooDeep works there digests why of = not_admitted TooDeep why of
-    value_unread TooHeavy works there digests why of = not_admitted TooHeavy why of
-    value_unread (TooLarge n) works there digests why of = not_admitted (TooLarge n) why of
-    value_unread NotParent works there digests why of = not_admitted NotParent why of
-    value_unread Full works there digests why of = not_admitted Full why of
+    pub value_unread : (fault : DbFault) → is_failed db ≡ false → is_named db at ≡ true → GetFails db at fault → Told fault r → IfOk r (λ t. string_bytes t ≡ value_told)
+    value_unread Disk works named why of = ended r failed_disk of
+    value_unread NoMemory works named why of = ended r no_memory of
+    value_unread Failed works named why of = let no : ⊥ = cc (sym works ∙ why) in absurd no
+    value_unread NotHeld works named why of = let no : ⊥ = cc (sym named ∙ why.1) in absurd no
+    value_unread (NotAStore file) works named why of = not_admitted (NotAStore file) why of
+    value_unread (BranchDiffers kept asked) works named why of = not_admitted (BranchDiffers kept asked) why of
+    value_unread (Damaged file place) works named why of = not_admitted (Damaged file place) why of
+    value_unread Unknown works named why of = not_admitted Unknown why of
+    value_unread (NotLive x) works named why of = not_admitted (NotLive x) why of
+    value_unread TooMany works named why of = not_admitted TooMany why of
+    value_unread TooDeep works named why of = not_admitted TooDeep why of
+    value_unread TooHeavy works named why of = not_admitted TooHeavy why of
+    value_unread (TooLarge n) works named why of = not_admitted (TooLarge n) why of
+    value_unread NotParent works named why of = not_admitted NotParent why of
+    value_unread Full works named why of = not_admitted Full why of

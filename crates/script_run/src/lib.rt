@@ -5,6 +5,7 @@
 //! proofs can be had alone.
 #![tactic(auto)]
 
+mod changing;
 mod committing;
 mod end;
 mod line_step;
@@ -14,6 +15,7 @@ mod script;
 mod telling;
 mod viewing;
 
+pub use changing::changes_line;
 pub use end::SessionEnd;
 pub use proving::{proof_line, range_line};
 pub use script::session;

@@ -15,6 +15,7 @@ ghost use Rattle.script_run.specs.Ends.{end_of, IsTextOf, StepCause};
 ghost use Rattle.script_run.specs.Steps.{IsAt, IsDone, IsMade, PartRuns, RunsUnprinted, KeptUnprinted, KeptPrinting, IsUnread, played, session_of};
 
 use crate::SessionEnd;
+use crate::changing::changes;
 use crate::committing::{commit, take};
 use crate::pending::Pending;
 use crate::proving::{prove, range};
@@ -107,6 +108,13 @@ fn do_line<D: Disk>(
             pairs,
             bytes,
         } => range(alloc, db, root, &asked, pairs, bytes, disk),
+        Line::ChangesOf {
+            from,
+            to,
+            range: asked,
+            pairs,
+            bytes,
+        } => changes(alloc, db, from, to, &asked, pairs, bytes, disk),
         // No script has a line that checks a proof.
         Line::Point { .. } => Ok(String::new(alloc)),
         Line::VerifyRange { .. } => Ok(String::new(alloc)),

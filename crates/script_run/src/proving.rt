@@ -3,18 +3,18 @@ ghost use Rattle.std.specs.Prelude.{◌≡◌, ◌⊎◌, ◌≤◌, ◌++◌, �
 ghost use Rattle.hex.specs.Hex.{encode_lower};
 ghost use Rattle.base_model.specs.Faults.{Rose};
 ghost use Rattle.disk_model.specs.Words.{TellsContents};
-ghost use Rattle.trie_model.specs.Maps.{Map, map_digests};
+ghost use Rattle.disk_model.specs.Files.{Files};
+ghost use Rattle.trie_model.specs.Maps.{Map};
 ghost use Rattle.text_model.specs.Texts.{proof_text, range_text};
 ghost use Rattle.proof_model.specs.Proofs.{point_proof};
 ghost use Rattle.proof_model.specs.RangeProofs.{range_proof};
 ghost use Rattle.proof_model.specs.Wire.{point_form};
 ghost use Rattle.proof_model.specs.RangeWire.{range_form};
-ghost use Rattle.session_model.specs.Named.{held, named, proved, range_proved};
+ghost use Rattle.session_model.specs.Named.{root_meant, named, proved, range_proved};
 ghost use Rattle.session_model.specs.Session.{told_proof, told_range};
 ghost use Rattle.batch_text.specs.SeenLine.{seen_root};
 ghost use Rattle.mdb_journal.specs.Opening.{Untouched};
-ghost use Rattle.mdb_core.specs.Stores.{DbState, Keeps, is_failed};
-ghost use Rattle.mdb_core.specs.Places.{number_at, map_at};
+ghost use Rattle.mdb_core.specs.Stores.{Keeps, held_maps, is_failed};
 ghost use Rattle.mdb_core.specs.Spots.{IsSpotOf};
 ghost use Rattle.script_run.specs.Ends.{IsTextOf};
 ghost use Rattle.script_run.specs.Naming.{IsSpotNamed};
@@ -23,7 +23,7 @@ use crate::SessionEnd;
 use crate::end::end_of_fault;
 use crate::telling::refused_line;
 use batch_text::RootWord;
-use bit_keys::Range;
+use bit_keys::{Id, Range};
 use disk_world::Disk;
 use mdb_core::{At, Db, DbFault, DbSource, Spot};
 use point_proof::prove as prove_point;
@@ -32,17 +32,15 @@ use range_proof::prove as prove_range;
 use std::alloc::Global;
 use trie_items::SourceFault;
 
-// Where the map is that a root names; None where the store holds no such map.
-fn place_of(root: RootWord) -> Option<At>
-    ensures some { IfSome result (λ at. (s : DbState) (m : Map) → named s.width (held m) (seen_root root) ≡ map_at s m at) }
-    ensures no_view { IfSome result (λ at. number_at at ≡ None) }
-    ensures none { IfNone result ((w : ℕ) (m : Map) → named w (held m) (seen_root root) ≡ None) }
+/// The root that a word stands for; None where so many commits are not held.
+pub(crate) fn root_of(db: &Db, root: RootWord) -> Option<Id>
+    ensures { (m : Map) (files : Files) → Keeps db.now m files → result ≡ root_meant db.now.width (held_maps db.now m) (seen_root root) }
 {
     match root {
-        RootWord::Id(id) => Some(At::Root(id)),
-        RootWord::Now | RootWord::Back(0) => Some(At::Store),
-        RootWord::Empty => Some(At::Root([0; 32])),
-        RootWord::Back(_) => None,
+        RootWord::Id(id) => Some(id),
+        RootWord::Now => Some(db.root()),
+        RootWord::Empty => Some([0; 32]),
+        RootWord::Back(commits) => db.back(commits),
     }
 }
 
@@ -54,15 +52,15 @@ fn spot_of<D: Disk>(
     disk: &mut D,
 ) -> Result<Option<Spot>, SessionEnd>
     requires { is_failed db.old ≡ false }
-    ensures spot { (m : Map) → db.old.digests ≡ map_digests m → IfOk result (λ spot. IsSpotNamed db.old m spot (named db.old.width (held m) (seen_root root))) }
+    ensures spot { (m : Map) (files : Files) → Keeps db.old m files → IfOk result (λ spot. IsSpotNamed db.old m spot (named db.old.width (held_maps db.old m) (seen_root root))) }
     ensures end { IfErr result (λ end. end ≡ SessionEnd.NoMemory) }
     ensures stays { db.new ≡ db.old }
     ensures disk { disk.new ≡ disk.old }
 {
-    let Some(at) = place_of(root) else {
+    let Some(id) = root_of(db, root) else {
         return Ok(None);
     };
-    match db.source(alloc, disk, at) {
+    match db.source(alloc, disk, At::Root(id)) {
         Ok(spot) => Ok(Some(spot)),
         Err(DbFault::NotHeld) => Ok(None),
         Err(fault) => Err(end_of_fault(fault)),
@@ -125,8 +123,8 @@ fn range_at<D: Disk>(
     }
 }
 
-// A line of this sort, with bytes.
-fn hex_line(alloc: Global, sort: &str, bytes: &[u8]) -> Result<String, SessionEnd>
+/// A line of this sort, with bytes.
+pub(crate) fn hex_line(alloc: Global, sort: &str, bytes: &[u8]) -> Result<String, SessionEnd>
     ensures { IsTextOf (sort.now ++ encode_lower bytes.now ++ 10 ∷ []) result }
 {
     let digits = hex::encode(alloc, bytes)?;
@@ -165,7 +163,7 @@ pub fn proof_line<D: Disk>(
 ) -> Result<Option<String>, SessionEnd>
     requires { is_failed db.old ≡ false }
     ensures text { TellsContents D.words.tells → (m : Map) → Keeps db.old m (D.words.seen disk.old)
-        → IfOk result (λ line. option_map string_bytes line ≡ option_map proof_text (proved db.old.width m (seen_root root) key.now)) }
+        → IfOk result (λ line. option_map string_bytes line ≡ option_map proof_text (proved db.old.width (held_maps db.old m) (seen_root root) key.now)) }
     ensures end { IfErr result (λ end. (end ≡ SessionEnd.NoMemory) ⊎ ((end ≡ SessionEnd.Disk) × Rose (D.words.faults disk.old) (D.words.faults disk.new))) }
     ensures stays { OnOk result (db.new ≡ db.old) }
     ensures failed { is_failed db.new ≡ true → IsErrOf result SessionEnd.Disk }
@@ -201,7 +199,7 @@ pub fn range_line<D: Disk>(
 ) -> Result<Option<String>, SessionEnd>
     requires { is_failed db.old ≡ false }
     ensures text { TellsContents D.words.tells → (m : Map) → Keeps db.old m (D.words.seen disk.old)
-        → IfOk result (λ line. option_map string_bytes line ≡ option_map range_text (range_proved db.old.width m (seen_root root) range.now pairs bytes)) }
+        → IfOk result (λ line. option_map string_bytes line ≡ option_map range_text (range_proved db.old.width (held_maps db.old m) (seen_root root) range.now pairs bytes)) }
     ensures end { IfErr result (λ end. (end ≡ SessionEnd.NoMemory) ⊎ ((end ≡ SessionEnd.Disk) × Rose (D.words.faults disk.old) (D.words.faults disk.new))) }
     ensures stays { OnOk result (db.new ≡ db.old) }
     ensures failed { is_failed db.new ≡ true → IsErrOf result SessionEnd.Disk }
@@ -234,7 +232,7 @@ pub(crate) fn prove<D: Disk>(
 ) -> Result<String, SessionEnd>
     requires { is_failed db.old ≡ false }
     ensures text { TellsContents D.words.tells → (m : Map) → Keeps db.old m (D.words.seen disk.old)
-        → IfOk result (λ text. string_bytes text ≡ (told_proof (proved db.old.width m (seen_root root) key.now)).text) }
+        → IfOk result (λ text. string_bytes text ≡ (told_proof (proved db.old.width (held_maps db.old m) (seen_root root) key.now)).text) }
     ensures end { IfErr result (λ end. (end ≡ SessionEnd.NoMemory) ⊎ ((end ≡ SessionEnd.Disk) × Rose (D.words.faults disk.old) (D.words.faults disk.new))) }
     ensures stays { OnOk result (db.new ≡ db.old) }
     ensures failed { is_failed db.new ≡ true → IsErrOf result SessionEnd.Disk }
@@ -261,7 +259,7 @@ pub(crate) fn range<D: Disk>(
 ) -> Result<String, SessionEnd>
     requires { is_failed db.old ≡ false }
     ensures text { TellsContents D.words.tells → (m : Map) → Keeps db.old m (D.words.seen disk.old)
-        → IfOk result (λ text. string_bytes text ≡ (told_range (range_proved db.old.width m (seen_root root) range.now pairs bytes)).text) }
+        → IfOk result (λ text. string_bytes text ≡ (told_range (range_proved db.old.width (held_maps db.old m) (seen_root root) range.now pairs bytes)).text) }
     ensures end { IfErr result (λ end. (end ≡ SessionEnd.NoMemory) ⊎ ((end ≡ SessionEnd.Disk) × Rose (D.words.faults disk.old) (D.words.faults disk.new))) }
     ensures stays { OnOk result (db.new ≡ db.old) }
     ensures failed { is_failed db.new ≡ true → IsErrOf result SessionEnd.Disk }

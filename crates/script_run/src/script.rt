@@ -6,7 +6,6 @@ ghost use Rattle.disk_model.specs.Moments.{Meanwhile};
 ghost use Rattle.disk_model.specs.Words.{TellsContents, TellsImages};
 ghost use Rattle.trie_model.specs.Maps.{Map};
 ghost use Rattle.text_model.specs.Lines.{input_limit};
-ghost use Rattle.view_model.specs.Forest.{no_views};
 ghost use Rattle.session_model.specs.Session.{Session};
 ghost use Rattle.session_model.specs.Script.{script, at_end};
 ghost use Rattle.run_model.specs.Outside.{outside, disk_seen};
@@ -15,7 +14,7 @@ ghost use Rattle.mdb_base.specs.declared.faults.LimitKind.TheVariants.{Input};
 ghost use Rattle.mdb_journal.specs.Moves.{AreSynced};
 ghost use Rattle.mdb_core.specs.Stores.{Keeps, is_failed};
 ghost use Rattle.script_run.specs.Ends.{end_of, reader_end, StepCause, LinesCause};
-ghost use Rattle.script_run.specs.Steps.{IsAt, PartRuns, AllDone, all_lines, still};
+ghost use Rattle.script_run.specs.Steps.{IsAt, IsJustOpened, PartRuns, AllDone, all_lines, still};
 
 use crate::SessionEnd;
 use crate::committing::commit_and_print;
@@ -52,15 +51,15 @@ fn run_lines<S: Source, K: Sink, D: Disk>(
 ) -> Result<(), SessionEnd>
     requires works { is_failed db.old ≡ false }
     requires none { pending.old ≡ [] }
-    ensures done { TellsContents D.words.tells → (m : Map) → Keeps db.old m (D.words.seen disk.old) → db.old.forest ≡ no_views
+    ensures done { TellsContents D.words.tells → (m : Map) → Keeps db.old m (D.words.seen disk.old) → IsJustOpened db.old
         → OnOk result (IfSome (S.left input.old) (λ bytes. AllDone db.old.width m bytes db.new pending.new (D.words.seen disk.new) (K.taken out.old) (K.taken out.new))) }
-    ensures stopped { TellsContents D.words.tells → (m : Map) → Keeps db.old m (D.words.seen disk.old) → db.old.forest ≡ no_views
+    ensures stopped { TellsContents D.words.tells → (m : Map) → Keeps db.old m (D.words.seen disk.old) → IsJustOpened db.old
         → let before = outside (S.left input.old) (S.faults input.old) (K.taken out.old) (K.faults out.old) (disk_seen D.words disk.old) in
         let after = outside (S.left input.new) (S.faults input.new) (K.taken out.new) (K.faults out.new) (disk_seen D.words disk.new) in
         IfErr result (λ end. IfSome (S.left input.old) (λ bytes. ScriptRuns db.old.width m bytes before after (end_of end))) }
-    ensures meanwhile { TellsImages D.words.tells → (m : Map) → Keeps db.old m (D.words.seen disk.old) → AreSynced (D.words.seen disk.old) (D.words.moments disk.old) → db.old.forest ≡ no_views
+    ensures meanwhile { TellsImages D.words.tells → (m : Map) → Keeps db.old m (D.words.seen disk.old) → AreSynced (D.words.seen disk.old) (D.words.moments disk.old) → IsJustOpened db.old
         → OnOk result (IfSome (S.left input.old) (λ bytes. Meanwhile (HasSteps m (all_lines db.old.width m bytes).steps 0) (D.words.moments disk.old) (D.words.moments disk.new))) }
-    ensures kept { TellsImages D.words.tells → (m : Map) → Keeps db.old m (D.words.seen disk.old) → AreSynced (D.words.seen disk.old) (D.words.moments disk.old) → db.old.forest ≡ no_views
+    ensures kept { TellsImages D.words.tells → (m : Map) → Keeps db.old m (D.words.seen disk.old) → AreSynced (D.words.seen disk.old) (D.words.moments disk.old) → IsJustOpened db.old
         → OnErr result (IfSome (S.left input.old) (λ bytes. KeepsSteps m (script db.old.width m bytes).steps (K.taken out.old) (K.taken out.new) (D.words.moments disk.old) (D.words.moments disk.new))) }
     ensures synced { TellsImages D.words.tells → AreSynced (D.words.seen disk.old) (D.words.moments disk.old) → OnOk result (AreSynced (D.words.seen disk.new) (D.words.moments disk.new)) }
     ensures works { OnOk result (is_failed db.new ≡ false) }
@@ -129,11 +128,11 @@ pub fn session<S: Source, K: Sink, D: Disk>(
     disk: &mut D,
 ) -> SessionEnd
     requires { is_failed db.old ≡ false }
-    ensures script { TellsContents D.words.tells → (m : Map) → Keeps db.old m (D.words.seen disk.old) → db.old.forest ≡ no_views
+    ensures script { TellsContents D.words.tells → (m : Map) → Keeps db.old m (D.words.seen disk.old) → IsJustOpened db.old
         → let before = outside (S.left input.old) (S.faults input.old) (K.taken out.old) (K.faults out.old) (disk_seen D.words disk.old) in
         let after = outside (S.left input.new) (S.faults input.new) (K.taken out.new) (K.faults out.new) (disk_seen D.words disk.new) in
         IfSome (S.left input.old) (λ bytes. ScriptRuns db.old.width m bytes before after (end_of result)) }
-    ensures kept { TellsImages D.words.tells → (m : Map) → Keeps db.old m (D.words.seen disk.old) → AreSynced (D.words.seen disk.old) (D.words.moments disk.old) → db.old.forest ≡ no_views
+    ensures kept { TellsImages D.words.tells → (m : Map) → Keeps db.old m (D.words.seen disk.old) → AreSynced (D.words.seen disk.old) (D.words.moments disk.old) → IsJustOpened db.old
         → IfSome (S.left input.old) (λ bytes. KeepsSteps m (script db.old.width m bytes).steps (K.taken out.old) (K.taken out.new) (D.words.moments disk.old) (D.words.moments disk.new)) }
     ensures end { result ≡ SessionEnd.Done → AtEnd (S.left input.new) }
     ensures limit { result ≡ SessionEnd.Limit Input → IfSome (S.left input.old) (λ bytes. input_limit < length bytes) }

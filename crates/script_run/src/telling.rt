@@ -13,7 +13,7 @@ ghost use Rattle.batch_text.specs.SeenLine.{seen_place};
 ghost use Rattle.mdb_journal.specs.Opening.{Untouched};
 ghost use Rattle.view_model.specs.Maps.{parent_map};
 ghost use Rattle.mdb_core.specs.Stores.{DbState, Keeps, is_failed};
-ghost use Rattle.mdb_core.specs.Places.{number_at, map_at};
+ghost use Rattle.mdb_core.specs.Places.{number_at, is_named, map_at};
 ghost use Rattle.session_model.specs.Session.{view_at};
 ghost use Rattle.script_run.specs.Ends.{cause_told, fault_end, IsTextOf};
 ghost use Rattle.script_run.specs.Steps.{session_of};
@@ -116,6 +116,7 @@ pub(crate) fn refuse(alloc: Global, fault: DbFault) -> Result<String, SessionEnd
 // Where a line reads.
 fn place_at(place: PlaceWord) -> At
     ensures number { number_at result ≡ view_at (seen_place place) }
+    ensures named { (s : DbState) → is_named s result ≡ true }
     ensures map { (s : DbState) (m : Map) → map_at s m result ≡ Some (parent_map s.forest m (view_at (seen_place place))) }
 {
     match place {

@@ -336,7 +336,7 @@ fn lines_that_are_refused_say_why(rt: HostRuntime) -> Result<(), Fail> {
 #[test]
 fn the_store_and_its_views_are_read(rt: HostRuntime) -> Result<(), Fail> {
     let alloc = rt.alloc();
-    let rows: [(&[u8], &[(&str, &str)]); 4] = [
+    let rows: [(&[u8], &[(&str, &str)]); 5] = [
         // What is pending is not read.
         (
             b"put 0a 61\nget db 0a\nroot db\n",
@@ -370,12 +370,24 @@ fn the_store_and_its_views_are_read(rt: HostRuntime) -> Result<(), Fail> {
         ),
         // A proof of a range without bounds has the pairs, and no node.
         (
-            b"put 0a 61\nput 0b 62\nrange now * * 9 99\ncommit\nrange ~0 * * 9 99\nrange ~1 * * 9 99\n",
+            b"put 0a 61\nput 0b 62\nrange now * * 9 99\ncommit\nrange ~0 * * 9 99\nrange ~1 * * 9 99\nrange ~2 * * 9 99\n",
             &[
                 ("range 010100000000", ""),
                 ("commit 1 ", A_AND_B),
                 ("range 01010002010a0161010b01620000", ""),
+                ("range 010100000000", ""),
                 ("refused not held", ""),
+            ],
+        ),
+        // What changed is told forward, and not from a later map to one before it.
+        (
+            b"put 0a 61\ncommit\nput 0b 62\ncommit\nchanges ~1 now * * 9 99\nchanges now ~1 * * 9 99\nchanges ~1 ~1 * * 9 99\n",
+            &[
+                ("commit 1 ", A),
+                ("commit 2 ", A_AND_B),
+                ("changes 01020001010b0101620000", ""),
+                ("refused not held", ""),
+                ("changes 010200000000", ""),
             ],
         ),
     ];

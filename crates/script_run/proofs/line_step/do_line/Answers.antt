@@ -7,9 +7,10 @@ use Rattle.batch_model.specs.Batch.{Change}
 use Rattle.text_model.specs.Texts.{root_text, value_text}
 use Rattle.batch_text.specs.SeenLine.{seen_line, seen_place, seen_root}
 use Rattle.batch_text.specs.declared.line.Line.{Line}
+use Rattle.mdb_core.specs.Stores.{held_maps}
 use Rattle.mdb_core.specs.declared.fault.DbFault.TheVariants.{Disk}
 use Rattle.mdb_core.proofs.KeptStores.{kept_stands, kept_same}
-use Rattle.session_model.specs.Named.{proved, range_proved}
+use Rattle.session_model.specs.Named.{proved, range_proved, changes_proved}
 use Rattle.session_model.specs.Session.{or_limit, line_step, commit, view, told, told_proof}
 use Rattle.run_model.specs.Script.{Keeps as KeepsSteps}
 use Rattle.script_run.specs.Ends.{end_of}
@@ -18,7 +19,7 @@ use Rattle.script_run.proofs.KeptFiles.{kept_leaves}
 use Rattle.script_run.proofs.KeptSteps.{idle}
 use Rattle.script_run.proofs.MadeLines.{Went, quiet_done, quiet_stopped, quiet_kept, quiet_told, went_done, went_stopped, went_kept, went_told}
 use Rattle.script_run.proofs.QuietLines.{skip_quiet, pend_quiet}
-use Rattle.script_run.proofs.Views.{state_quiet, told_quiet, told_got, proof_got, range_got}
+use Rattle.script_run.proofs.Views.{state_quiet, told_quiet, told_got, proof_got, range_got, changes_got}
 use Rattle.script_run.proofs.line_step.do_line.Goals as goal
 
 pub returns-in-Skip-clause-done : goal.returns-in-Skip-clause-done
@@ -488,7 +489,7 @@ returns-in-Prove-clause-done g c = λ tells m keeps.
     let old = d.moments c.args.disk.now in
     let now = d.moments c.prove.new.disk in
     let went : Went m made Disk c.prove.result c.prove.new.db pending files old now = subst (λ (line : Line). Went m (or_limit (line_step w s (seen_line line))) Disk c.prove.result c.prove.new.db pending files old now) (sym c.in-Prove.is)
-    (proof_got m db pending (d.seen c.args.disk.now) keeps (proved w m (seen_root c.in-Prove.root) c.in-Prove.key.items) c.prove.new.db files old now _ c.prove.result (subst (λ (key : List ℕ). IfOk c.prove.result (λ t. string_bytes t ≡ (told_proof (proved w m (seen_root c.in-Prove.root) key)).text)) c.deref-in-Prove.ensures (c.prove.ensures.text tells m keeps)) c.prove.ensures.end c.prove.ensures.stays c.prove.ensures.untouched.seen c.prove.ensures.untouched.images) in
+    (proof_got m db pending (d.seen c.args.disk.now) keeps (proved w (held_maps db m) (seen_root c.in-Prove.root) c.in-Prove.key.items) c.prove.new.db files old now _ c.prove.result (subst (λ (key : List ℕ). IfOk c.prove.result (λ t. string_bytes t ≡ (told_proof (proved w (held_maps db m) (seen_root c.in-Prove.root) key)).text)) c.deref-in-Prove.ensures (c.prove.ensures.text tells m keeps)) c.prove.ensures.end c.prove.ensures.stays c.prove.ensures.untouched.seen c.prove.ensures.untouched.images) in
     went_done s made Disk c.prove.result c.prove.new.db pending files old now went
 
 pub returns-in-Prove-clause-stopped : goal.returns-in-Prove-clause-stopped
@@ -503,7 +504,7 @@ returns-in-Prove-clause-stopped g c = λ tells m keeps.
     let old = d.moments c.args.disk.now in
     let now = d.moments c.prove.new.disk in
     let went : Went m made Disk c.prove.result c.prove.new.db pending files old now = subst (λ (line : Line). Went m (or_limit (line_step w s (seen_line line))) Disk c.prove.result c.prove.new.db pending files old now) (sym c.in-Prove.is)
-    (proof_got m db pending (d.seen c.args.disk.now) keeps (proved w m (seen_root c.in-Prove.root) c.in-Prove.key.items) c.prove.new.db files old now _ c.prove.result (subst (λ (key : List ℕ). IfOk c.prove.result (λ t. string_bytes t ≡ (told_proof (proved w m (seen_root c.in-Prove.root) key)).text)) c.deref-in-Prove.ensures (c.prove.ensures.text tells m keeps)) c.prove.ensures.end c.prove.ensures.stays c.prove.ensures.untouched.seen c.prove.ensures.untouched.images) in
+    (proof_got m db pending (d.seen c.args.disk.now) keeps (proved w (held_maps db m) (seen_root c.in-Prove.root) c.in-Prove.key.items) c.prove.new.db files old now _ c.prove.result (subst (λ (key : List ℕ). IfOk c.prove.result (λ t. string_bytes t ≡ (told_proof (proved w (held_maps db m) (seen_root c.in-Prove.root) key)).text)) c.deref-in-Prove.ensures (c.prove.ensures.text tells m keeps)) c.prove.ensures.end c.prove.ensures.stays c.prove.ensures.untouched.seen c.prove.ensures.untouched.images) in
     went_stopped s made Disk c.prove.result c.prove.new.db pending files old now went
 
 pub returns-in-Prove-clause-kept : goal.returns-in-Prove-clause-kept
@@ -518,7 +519,7 @@ returns-in-Prove-clause-kept g c = λ tells m keeps synced.
     let old = d.moments c.args.disk.now in
     let now = d.moments c.prove.new.disk in
     let went : Went m made Disk c.prove.result c.prove.new.db pending files old now = subst (λ (line : Line). Went m (or_limit (line_step w s (seen_line line))) Disk c.prove.result c.prove.new.db pending files old now) (sym c.in-Prove.is)
-    (proof_got m db pending (d.seen c.args.disk.now) keeps (proved w m (seen_root c.in-Prove.root) c.in-Prove.key.items) c.prove.new.db files old now _ c.prove.result (subst (λ (key : List ℕ). IfOk c.prove.result (λ t. string_bytes t ≡ (told_proof (proved w m (seen_root c.in-Prove.root) key)).text)) c.deref-in-Prove.ensures (c.prove.ensures.text (contents_too d.tells tells) m keeps)) c.prove.ensures.end c.prove.ensures.stays c.prove.ensures.untouched.seen c.prove.ensures.untouched.images) in
+    (proof_got m db pending (d.seen c.args.disk.now) keeps (proved w (held_maps db m) (seen_root c.in-Prove.root) c.in-Prove.key.items) c.prove.new.db files old now _ c.prove.result (subst (λ (key : List ℕ). IfOk c.prove.result (λ t. string_bytes t ≡ (told_proof (proved w (held_maps db m) (seen_root c.in-Prove.root) key)).text)) c.deref-in-Prove.ensures (c.prove.ensures.text (contents_too d.tells tells) m keeps)) c.prove.ensures.end c.prove.ensures.stays c.prove.ensures.untouched.seen c.prove.ensures.untouched.images) in
     went_kept s made Disk c.prove.result c.prove.new.db pending files old now went (kept_leaves db m (d.seen c.args.disk.now) old keeps synced)
     (λ lost taken. subst (λ n. KeepsSteps m (played s made).steps taken taken old n) (sym c.prove.ensures.untouched.images) (idle m (played s made).steps taken old (kept_leaves db m (d.seen c.args.disk.now) old keeps synced)))
 
@@ -534,7 +535,7 @@ returns-in-Prove-clause-told g c = λ tells m keeps synced.
     let old = d.moments c.args.disk.now in
     let now = d.moments c.prove.new.disk in
     let went : Went m made Disk c.prove.result c.prove.new.db pending files old now = subst (λ (line : Line). Went m (or_limit (line_step w s (seen_line line))) Disk c.prove.result c.prove.new.db pending files old now) (sym c.in-Prove.is)
-    (proof_got m db pending (d.seen c.args.disk.now) keeps (proved w m (seen_root c.in-Prove.root) c.in-Prove.key.items) c.prove.new.db files old now _ c.prove.result (subst (λ (key : List ℕ). IfOk c.prove.result (λ t. string_bytes t ≡ (told_proof (proved w m (seen_root c.in-Prove.root) key)).text)) c.deref-in-Prove.ensures (c.prove.ensures.text (contents_too d.tells tells) m keeps)) c.prove.ensures.end c.prove.ensures.stays c.prove.ensures.untouched.seen c.prove.ensures.untouched.images) in
+    (proof_got m db pending (d.seen c.args.disk.now) keeps (proved w (held_maps db m) (seen_root c.in-Prove.root) c.in-Prove.key.items) c.prove.new.db files old now _ c.prove.result (subst (λ (key : List ℕ). IfOk c.prove.result (λ t. string_bytes t ≡ (told_proof (proved w (held_maps db m) (seen_root c.in-Prove.root) key)).text)) c.deref-in-Prove.ensures (c.prove.ensures.text (contents_too d.tells tells) m keeps)) c.prove.ensures.end c.prove.ensures.stays c.prove.ensures.untouched.seen c.prove.ensures.untouched.images) in
     went_told s made Disk c.prove.result c.prove.new.db pending files old now went (kept_leaves db m (d.seen c.args.disk.now) old keeps synced)
 
 pub returns-in-RangeOf-clause-done : goal.returns-in-RangeOf-clause-done
@@ -549,7 +550,7 @@ returns-in-RangeOf-clause-done g c = λ tells m keeps.
     let old = d.moments c.args.disk.now in
     let now = d.moments c.range.new.disk in
     let went : Went m made Disk c.range.result c.range.new.db pending files old now = subst (λ (line : Line). Went m (or_limit (line_step w s (seen_line line))) Disk c.range.result c.range.new.db pending files old now) (sym c.in-RangeOf.is)
-    (range_got m db pending (d.seen c.args.disk.now) keeps (range_proved w m (seen_root c.in-RangeOf.root) c.in-RangeOf.asked c.in-RangeOf.pairs c.in-RangeOf.bytes) c.range.new.db files old now _ c.range.result (c.range.ensures.text tells m keeps) c.range.ensures.end c.range.ensures.stays c.range.ensures.untouched.seen c.range.ensures.untouched.images) in
+    (range_got m db pending (d.seen c.args.disk.now) keeps (range_proved w (held_maps db m) (seen_root c.in-RangeOf.root) c.in-RangeOf.asked c.in-RangeOf.pairs c.in-RangeOf.bytes) c.range.new.db files old now _ c.range.result (c.range.ensures.text tells m keeps) c.range.ensures.end c.range.ensures.stays c.range.ensures.untouched.seen c.range.ensures.untouched.images) in
     went_done s made Disk c.range.result c.range.new.db pending files old now went
 
 pub returns-in-RangeOf-clause-stopped : goal.returns-in-RangeOf-clause-stopped
@@ -564,7 +565,7 @@ returns-in-RangeOf-clause-stopped g c = λ tells m keeps.
     let old = d.moments c.args.disk.now in
     let now = d.moments c.range.new.disk in
     let went : Went m made Disk c.range.result c.range.new.db pending files old now = subst (λ (line : Line). Went m (or_limit (line_step w s (seen_line line))) Disk c.range.result c.range.new.db pending files old now) (sym c.in-RangeOf.is)
-    (range_got m db pending (d.seen c.args.disk.now) keeps (range_proved w m (seen_root c.in-RangeOf.root) c.in-RangeOf.asked c.in-RangeOf.pairs c.in-RangeOf.bytes) c.range.new.db files old now _ c.range.result (c.range.ensures.text tells m keeps) c.range.ensures.end c.range.ensures.stays c.range.ensures.untouched.seen c.range.ensures.untouched.images) in
+    (range_got m db pending (d.seen c.args.disk.now) keeps (range_proved w (held_maps db m) (seen_root c.in-RangeOf.root) c.in-RangeOf.asked c.in-RangeOf.pairs c.in-RangeOf.bytes) c.range.new.db files old now _ c.range.result (c.range.ensures.text tells m keeps) c.range.ensures.end c.range.ensures.stays c.range.ensures.untouched.seen c.range.ensures.untouched.images) in
     went_stopped s made Disk c.range.result c.range.new.db pending files old now went
 
 pub returns-in-RangeOf-clause-kept : goal.returns-in-RangeOf-clause-kept
@@ -579,7 +580,7 @@ returns-in-RangeOf-clause-kept g c = λ tells m keeps synced.
     let old = d.moments c.args.disk.now in
     let now = d.moments c.range.new.disk in
     let went : Went m made Disk c.range.result c.range.new.db pending files old now = subst (λ (line : Line). Went m (or_limit (line_step w s (seen_line line))) Disk c.range.result c.range.new.db pending files old now) (sym c.in-RangeOf.is)
-    (range_got m db pending (d.seen c.args.disk.now) keeps (range_proved w m (seen_root c.in-RangeOf.root) c.in-RangeOf.asked c.in-RangeOf.pairs c.in-RangeOf.bytes) c.range.new.db files old now _ c.range.result (c.range.ensures.text (contents_too d.tells tells) m keeps) c.range.ensures.end c.range.ensures.stays c.range.ensures.untouched.seen c.range.ensures.untouched.images) in
+    (range_got m db pending (d.seen c.args.disk.now) keeps (range_proved w (held_maps db m) (seen_root c.in-RangeOf.root) c.in-RangeOf.asked c.in-RangeOf.pairs c.in-RangeOf.bytes) c.range.new.db files old now _ c.range.result (c.range.ensures.text (contents_too d.tells tells) m keeps) c.range.ensures.end c.range.ensures.stays c.range.ensures.untouched.seen c.range.ensures.untouched.images) in
     went_kept s made Disk c.range.result c.range.new.db pending files old now went (kept_leaves db m (d.seen c.args.disk.now) old keeps synced)
     (λ lost taken. subst (λ n. KeepsSteps m (played s made).steps taken taken old n) (sym c.range.ensures.untouched.images) (idle m (played s made).steps taken old (kept_leaves db m (d.seen c.args.disk.now) old keeps synced)))
 
@@ -595,8 +596,69 @@ returns-in-RangeOf-clause-told g c = λ tells m keeps synced.
     let old = d.moments c.args.disk.now in
     let now = d.moments c.range.new.disk in
     let went : Went m made Disk c.range.result c.range.new.db pending files old now = subst (λ (line : Line). Went m (or_limit (line_step w s (seen_line line))) Disk c.range.result c.range.new.db pending files old now) (sym c.in-RangeOf.is)
-    (range_got m db pending (d.seen c.args.disk.now) keeps (range_proved w m (seen_root c.in-RangeOf.root) c.in-RangeOf.asked c.in-RangeOf.pairs c.in-RangeOf.bytes) c.range.new.db files old now _ c.range.result (c.range.ensures.text (contents_too d.tells tells) m keeps) c.range.ensures.end c.range.ensures.stays c.range.ensures.untouched.seen c.range.ensures.untouched.images) in
+    (range_got m db pending (d.seen c.args.disk.now) keeps (range_proved w (held_maps db m) (seen_root c.in-RangeOf.root) c.in-RangeOf.asked c.in-RangeOf.pairs c.in-RangeOf.bytes) c.range.new.db files old now _ c.range.result (c.range.ensures.text (contents_too d.tells tells) m keeps) c.range.ensures.end c.range.ensures.stays c.range.ensures.untouched.seen c.range.ensures.untouched.images) in
     went_told s made Disk c.range.result c.range.new.db pending files old now went (kept_leaves db m (d.seen c.args.disk.now) old keeps synced)
+
+pub returns-in-ChangesOf-clause-done : goal.returns-in-ChangesOf-clause-done
+returns-in-ChangesOf-clause-done g c = λ tells m keeps.
+    let d = g.D.Disk.words in
+    let db = c.args.db.now in
+    let w = db.width in
+    let pending = c.args.pending.now in
+    let s = session_of m db pending in
+    let made = or_limit (line_step w s (seen_line c.args.line)) in
+    let files = d.seen c.changes.new.disk in
+    let old = d.moments c.args.disk.now in
+    let now = d.moments c.changes.new.disk in
+    let went : Went m made Disk c.changes.result c.changes.new.db pending files old now = subst (λ (line : Line). Went m (or_limit (line_step w s (seen_line line))) Disk c.changes.result c.changes.new.db pending files old now) (sym c.in-ChangesOf.is)
+    (changes_got m db pending (d.seen c.args.disk.now) keeps (changes_proved w (held_maps db m) (seen_root c.in-ChangesOf.from) (seen_root c.in-ChangesOf.to) c.in-ChangesOf.asked c.in-ChangesOf.pairs c.in-ChangesOf.bytes) c.changes.new.db files old now _ c.changes.result (c.changes.ensures.text tells m keeps) c.changes.ensures.end c.changes.ensures.stays c.changes.ensures.untouched.seen c.changes.ensures.untouched.images) in
+    went_done s made Disk c.changes.result c.changes.new.db pending files old now went
+
+pub returns-in-ChangesOf-clause-stopped : goal.returns-in-ChangesOf-clause-stopped
+returns-in-ChangesOf-clause-stopped g c = λ tells m keeps.
+    let d = g.D.Disk.words in
+    let db = c.args.db.now in
+    let w = db.width in
+    let pending = c.args.pending.now in
+    let s = session_of m db pending in
+    let made = or_limit (line_step w s (seen_line c.args.line)) in
+    let files = d.seen c.changes.new.disk in
+    let old = d.moments c.args.disk.now in
+    let now = d.moments c.changes.new.disk in
+    let went : Went m made Disk c.changes.result c.changes.new.db pending files old now = subst (λ (line : Line). Went m (or_limit (line_step w s (seen_line line))) Disk c.changes.result c.changes.new.db pending files old now) (sym c.in-ChangesOf.is)
+    (changes_got m db pending (d.seen c.args.disk.now) keeps (changes_proved w (held_maps db m) (seen_root c.in-ChangesOf.from) (seen_root c.in-ChangesOf.to) c.in-ChangesOf.asked c.in-ChangesOf.pairs c.in-ChangesOf.bytes) c.changes.new.db files old now _ c.changes.result (c.changes.ensures.text tells m keeps) c.changes.ensures.end c.changes.ensures.stays c.changes.ensures.untouched.seen c.changes.ensures.untouched.images) in
+    went_stopped s made Disk c.changes.result c.changes.new.db pending files old now went
+
+pub returns-in-ChangesOf-clause-kept : goal.returns-in-ChangesOf-clause-kept
+returns-in-ChangesOf-clause-kept g c = λ tells m keeps synced.
+    let d = g.D.Disk.words in
+    let db = c.args.db.now in
+    let w = db.width in
+    let pending = c.args.pending.now in
+    let s = session_of m db pending in
+    let made = or_limit (line_step w s (seen_line c.args.line)) in
+    let files = d.seen c.changes.new.disk in
+    let old = d.moments c.args.disk.now in
+    let now = d.moments c.changes.new.disk in
+    let went : Went m made Disk c.changes.result c.changes.new.db pending files old now = subst (λ (line : Line). Went m (or_limit (line_step w s (seen_line line))) Disk c.changes.result c.changes.new.db pending files old now) (sym c.in-ChangesOf.is)
+    (changes_got m db pending (d.seen c.args.disk.now) keeps (changes_proved w (held_maps db m) (seen_root c.in-ChangesOf.from) (seen_root c.in-ChangesOf.to) c.in-ChangesOf.asked c.in-ChangesOf.pairs c.in-ChangesOf.bytes) c.changes.new.db files old now _ c.changes.result (c.changes.ensures.text (contents_too d.tells tells) m keeps) c.changes.ensures.end c.changes.ensures.stays c.changes.ensures.untouched.seen c.changes.ensures.untouched.images) in
+    went_kept s made Disk c.changes.result c.changes.new.db pending files old now went (kept_leaves db m (d.seen c.args.disk.now) old keeps synced)
+    (λ lost taken. subst (λ n. KeepsSteps m (played s made).steps taken taken old n) (sym c.changes.ensures.untouched.images) (idle m (played s made).steps taken old (kept_leaves db m (d.seen c.args.disk.now) old keeps synced)))
+
+pub returns-in-ChangesOf-clause-told : goal.returns-in-ChangesOf-clause-told
+returns-in-ChangesOf-clause-told g c = λ tells m keeps synced.
+    let d = g.D.Disk.words in
+    let db = c.args.db.now in
+    let w = db.width in
+    let pending = c.args.pending.now in
+    let s = session_of m db pending in
+    let made = or_limit (line_step w s (seen_line c.args.line)) in
+    let files = d.seen c.changes.new.disk in
+    let old = d.moments c.args.disk.now in
+    let now = d.moments c.changes.new.disk in
+    let went : Went m made Disk c.changes.result c.changes.new.db pending files old now = subst (λ (line : Line). Went m (or_limit (line_step w s (seen_line line))) Disk c.changes.result c.changes.new.db pending files old now) (sym c.in-ChangesOf.is)
+    (changes_got m db pending (d.seen c.args.disk.now) keeps (changes_proved w (held_maps db m) (seen_root c.in-ChangesOf.from) (seen_root c.in-ChangesOf.to) c.in-ChangesOf.asked c.in-ChangesOf.pairs c.in-ChangesOf.bytes) c.changes.new.db files old now _ c.changes.result (c.changes.ensures.text (contents_too d.tells tells) m keeps) c.changes.ensures.end c.changes.ensures.stays c.changes.ensures.untouched.seen c.changes.ensures.untouched.images) in
+    went_told s made Disk c.changes.result c.changes.new.db pending files old now went (kept_leaves db m (d.seen c.args.disk.now) old keeps synced)
 
 pub returns-in-Point-clause-done : goal.returns-in-Point-clause-done
 returns-in-Point-clause-done g c = λ tells m keeps.

@@ -3,11 +3,11 @@ use Rattle.base_model.specs.Faults.{TellsAlike}
 use Rattle.disk_model.specs.Words.{TellsContents, TellsImages}
 use Rattle.trie_model.specs.Maps.{Map}
 use Rattle.text_model.specs.Lines.{input_limit}
-use Rattle.view_model.specs.Forest.{no_views}
 use Rattle.run_model.specs.Outside.{disk_seen}
 use Rattle.batch_text.specs.Stream.{EndHolds}
 use Rattle.mdb_journal.specs.Moves.{AreSynced}
 use Rattle.mdb_core.specs.Stores.{Keeps, is_failed}
+use Rattle.script_run.specs.Steps.{IsJustOpened}
 use Rattle.script_run.proofs.LineCauses.{FitsAlike}
 use Rattle.script_run.proofs.ScriptSoFar.{SoFar}
 use Rattle.script_run.proofs.script.run_lines.Given as goal
@@ -17,7 +17,7 @@ invariant-lines g l =
     let left = g.S.Source.left in
     let taken = g.K.Sink.taken in
     let d = g.D.Disk.words in record {
-      so_far : TellsContents d.tells → (m : Map) → Keeps l.fn.db m (d.seen l.fn.disk) → l.fn.db.forest ≡ no_views
+      so_far : TellsContents d.tells → (m : Map) → Keeps l.fn.db m (d.seen l.fn.disk) → IsJustOpened l.fn.db
           → SoFar l.fn.db.width m (TellsImages d.tells × AreSynced (d.seen l.fn.disk) (d.moments l.fn.disk))
           (record { db = l.fn.db; pending = l.fn.pending; taken = taken l.fn.out; disk = disk_seen d l.fn.disk })
           (left l.fn.input) l.number (record { db = l.db; pending = l.pending; taken = taken l.out; disk = disk_seen d l.disk }) l.reader (left l.input);

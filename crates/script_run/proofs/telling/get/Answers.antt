@@ -5,7 +5,7 @@ use Rattle.trie_model.specs.Maps.{Map}
 use Rattle.view_model.specs.Maps.{parent_map}
 use Rattle.session_model.specs.Session.{view_at}
 use Rattle.batch_text.specs.SeenLine.{seen_place}
-use Rattle.script_run.proofs.Views.{value_read, value_unread, some_map}
+use Rattle.script_run.proofs.Views.{value_read, value_unread}
 use Rattle.script_run.proofs.telling.get.Goals as goal
 
 pub returns-in-Ok-clause-text : goal.returns-in-Ok-clause-text
@@ -20,4 +20,4 @@ pub returns-in-Err-clause-text : goal.returns-in-Err-clause-text
 returns-in-Err-clause-text g c = λ tells m keeps.
     let db = c.args.db.now in
     value_unread m db (seen_place c.args.place) c.args.key.now c.place_at.result c.refuse.result c.place_at.ensures.number c.in-Err.fault c.requires
-    (λ n digests. some_map (c.place_at.ensures.map db n)) keeps.digests c.in-Err.ensures.fault c.refuse.ensures
+    (c.place_at.ensures.named db) c.in-Err.ensures.fault c.refuse.ensures

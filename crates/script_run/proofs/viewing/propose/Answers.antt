@@ -7,7 +7,7 @@ use Rattle.view_model.specs.Maps.{parent_map}
 use Rattle.session_model.specs.Session.{view, or_limit}
 use Rattle.mdb_core.specs.Stores.{DbState, root_at}
 use Rattle.mdb_core.specs.Proposals.{Makes, MakeFails}
-use Rattle.script_run.specs.Steps.{IsQuiet, session_of}
+use Rattle.script_run.specs.Steps.{IsQuiet, holding_of, session_of}
 use Rattle.script_run.proofs.Views.{view_made, not_made}
 use Rattle.script_run.proofs.viewing.propose.Goals as goal
 
@@ -21,7 +21,7 @@ returns-in-Ok-clause-quiet g c = λ m files keeps.
     (subst (λ (p : Option ℕ). Makes db p batch) parent e.made) e.number
     (subst (λ (p : Option ℕ). root_at c.view.new.self.roots c.in-Ok.id.number ≡ root db.width (after_batch (parent_map db.forest m p) batch)) parent (e.root m keeps.digests))
     (ap (λ (d : DbState). d.forest) e.state ∙ ap (λ (p : Option ℕ). made db.forest p batch) parent)
-    (c.view.ensures.keeps m files keeps) c.line_of_view.ensures
+    (ap (λ (d : DbState). holding_of d m) e.state) (c.view.ensures.keeps m files keeps) c.line_of_view.ensures
 
 pub returns-clause-quiet : goal.returns-clause-quiet
 returns-clause-quiet g c = λ m files keeps.
