@@ -7,13 +7,13 @@ use Rattle.disk_model.specs.Words.{TellsContents, TellsImages}
 use Rattle.trie_model.specs.Maps.{Map}
 use Rattle.text_model.specs.Lines.{input_limit}
 use Rattle.session_model.specs.Session.{Step, Stop, BadLine as stopped_by_line, Limit as stopped_by_limit}
-use Rattle.view_model.specs.Forest.{no_views}
 use Rattle.session_model.specs.Script.{script}
 use Rattle.store_model.specs.Refusals.{Refusal}
 use Rattle.mdb_journal.specs.Moves.{AreSynced}
 use Rattle.mdb_core.specs.Stores.{DbState, Keeps}
 use Rattle.mdb_base.specs.declared.faults.LimitKind.{LimitKind as LimitOfCode}
 use Rattle.mdb_base.specs.declared.faults.LimitKind.TheVariants.{Input as InputOfCode, Pairs as PairsOfCode, Batch as BatchOfCode, Answers as AnswersOfCode}
+use Rattle.script_run.specs.Steps.{IsJustOpened}
 use Rattle.script_run.specs.declared.end.SessionEnd.{SessionEnd}
 use Rattle.script_run.specs.declared.end.SessionEnd.TheVariants as script_end
 use Rattle.script_run.specs.Ends.{end_of, limit_of}
@@ -87,9 +87,9 @@ pub record Scripted (w : ℕ) (before : Outside) (mid : DiskSeen) (s : DbState) 
   pub opened : IsOpen w before.disk mid s
   pub keeps : KeepsMaps before.disk mid
   pub opened_later : before.disk.faults ≤ mid.faults
-  pub script_runs : TellsContents before.disk.tells → (m : Map) → Keeps s m mid.files → s.forest ≡ no_views
+  pub script_runs : TellsContents before.disk.tells → (m : Map) → Keeps s m mid.files → IsJustOpened s
       → IfSome before.input.left (λ bytes. ScriptRuns s.width m bytes (record { input = before.input; output = before.output; disk = mid }) after (end_of end))
-  pub kept : TellsImages before.disk.tells → (m : Map) → Keeps s m mid.files → AreSynced mid.files mid.moments → s.forest ≡ no_views
+  pub kept : TellsImages before.disk.tells → (m : Map) → Keeps s m mid.files → AreSynced mid.files mid.moments → IsJustOpened s
       → IfSome before.input.left (λ bytes. KeepsSteps m (script s.width m bytes).steps before.output.taken after.output.taken mid.moments after.disk.moments)
   pub at_end : end ≡ script_end.Done → AtEnd after.input.left
   pub limit : end ≡ script_end.Limit InputOfCode → IfSome before.input.left (λ bytes. input_limit < length bytes)
@@ -112,7 +112,7 @@ runs_on_map w before mid s after end p = λ m found.
     let between : Outside = record { input = before.input; output = before.output; disk = mid } in
     where_told (λ bytes. ScriptRuns s.width m bytes between after (end_of end)) (λ bytes. ScriptRuns w m bytes before after (end_of end)) before.input.left
     (λ bytes r. begun_before w m bytes before mid after (end_of end) (subst (λ v. ScriptRuns v m bytes between after (end_of end)) p.opened.width r))
-    (p.script_runs found.0 m (open_keeps w before.disk mid s p.opened found.0 m found.1.0) p.opened.no_view)
+    (p.script_runs found.0 m (open_keeps w before.disk mid s p.opened found.0 m found.1.0) p.opened.fresh)
 
 -- a crash leaves the map after a prefix of its commits
 survives_on_map : (w : ℕ) (before : Outside) (mid : DiskSeen) (s : DbState) (after : Outside) (end : SessionEnd) → Scripted w before mid s after end → TellsImages before.disk.tells
@@ -125,7 +125,7 @@ survives_on_map w before mid s after end p told = λ m found.
     where_told (λ bytes. KeepsSteps m (script s.width m bytes).steps taken taken' mid.moments now) (λ bytes. Survives m (script w m bytes).steps taken taken' was now) before.input.left
     (λ bytes kept. script_survives m (script w m bytes).steps taken taken' was mid.moments now (p.keeps told m found.1.0) (p.opened.left told m found.1.0)
     (subst (λ v. KeepsSteps m (script v m bytes).steps taken taken' mid.moments now) p.opened.width kept))
-    (p.kept told m (open_keeps w before.disk mid s p.opened found.0 m found.1.0) (p.opened.synced told) p.opened.no_view)
+    (p.kept told m (open_keeps w before.disk mid s p.opened found.0 m found.1.0) (p.opened.synced told) p.opened.fresh)
 
 -- ---- the ends of a script
 -- a script that came to its end, or stopped

@@ -1,5 +1,5 @@
 -- What an opened store keeps, and why none is opened.
-use Rattle.std.proofs.Common.{◌≡◌, ◌⊎◌, inl, inr, ℕ, ◌≤◌, false, refl, sym, ◌∙◌, subst}
+use Rattle.std.proofs.Common.{◌≡◌, ◌⊎◌, inl, inr, ℕ, ◌≤◌, false, List, [], ◌∷◌, ap, refl, sym, ◌∙◌, subst}
 use Rattle.base_model.specs.Faults.{Rose}
 use Rattle.disk_model.specs.Files.{Files}
 use Rattle.disk_model.specs.Moments.{Moments}
@@ -23,6 +23,22 @@ use Rattle.script_run.specs.declared.end.SessionEnd.TheVariants as ends
 use Rattle.mdb_tool.specs.Ends.{end_of_fault, end_of_reading}
 use Rattle.mdb_tool.specs.Opening.{KeepsMaps, IsOpen, FailsBy}
 use Rattle.run_model.proofs.Telling.{rose_at_last}
+use Rattle.view_model.specs.Forest.{no_views}
+use Rattle.history_model.specs.Held.{commit_limit, weight_limit}
+use Rattle.change_history.specs.Histories.{HistoryState, no_commits, recalled}
+use Rattle.session_model.specs.Named.{Holding}
+use Rattle.mdb_core.specs.Stores.{held_maps}
+use Rattle.script_run.specs.Steps.{IsJustOpened}
+
+-- a store that was just opened holds its map alone
+pub just_opened : (s : DbState) → s.forest ≡ no_views → s.history ≡ no_commits commit_limit weight_limit s.root → IsJustOpened s
+just_opened s views is = record {
+  views = views;
+  holding = λ m. ap (λ (h : HistoryState). let held : Holding = record { commits = h.commits; weight = h.weight; maps = recalled h m } in held) is;
+}
+
+pub first_held : (s : DbState) → IsJustOpened s → (m : Map) → held_maps s m ≡ m ∷ []
+first_held s fresh m = ap (λ (h : Holding). h.maps) (fresh.holding m)
 
 -- why no store was opened
 pub opening_fails : (w : ℕ) (before after : DiskSeen) (fault : DbFault) → (TellsContents before.tells → OpenFails w before.files fault) → (fault ≡ Disk → Rose before.faults after.faults)

@@ -6,19 +6,20 @@ use Rattle.base_model.specs.Streams.{AppendsPrefix}
 use Rattle.disk_model.specs.Words.{TellsContents}
 use Rattle.trie_model.specs.Maps.{Map, limits}
 use Rattle.std.specs.Prelude.{option_map}
-use Rattle.text_model.specs.Texts.{value_text, proof_text, range_text}
+use Rattle.text_model.specs.Texts.{value_text, proof_text, range_text, changes_text}
 use Rattle.store_model.specs.Journal.{Stands}
 use Rattle.store_model.proofs.Journals.{files_stand_for_one_map}
 use Rattle.mdb_journal.specs.Opening.{Untouched}
 use Rattle.mdb_core.specs.Stores.{DbState, Keeps}
 use Rattle.run_model.specs.Outside.{DiskSeen, Outside}
-use Rattle.run_model.specs.Command.{Get, Prove, Range}
+use Rattle.run_model.specs.Command.{Get, Prove, Range, Changes}
 use Rattle.run_model.specs.End.{End, Done, BadWords, BadLine, NotOpened, VerifyRefused, NotHeld, Limit, Read, Write, Disk, NoMemory}
 use Rattle.run_model.specs.Outcome.{Outcome, PrintsNothing, CameTo}
 use Rattle.run_model.specs.Store.{IsFound}
 use Rattle.run_model.specs.Get.{get_outcome}
 use Rattle.run_model.specs.Prove.{proof_outcome, prove_outcome}
 use Rattle.run_model.specs.Range.{range_proof_outcome, range_outcome}
+use Rattle.run_model.specs.Changes.{changes_proof_outcome, changes_outcome}
 use Rattle.run_model.specs.Reading.{IsAnswer, ReadRuns}
 use Rattle.run_model.specs.Runs.{SharedRuns}
 use Rattle.range_model.specs.Ranges.{Range as Bounds}
@@ -68,6 +69,11 @@ pub line_of_range : (found line : Option (List ℕ)) → line ≡ option_map ran
 line_of_range None line is = ap line_outcome is
 line_of_range (Some bytes) line is = ap line_outcome is
 
+-- and that of a change proof
+pub line_of_changes : (found line : Option (List ℕ)) → line ≡ option_map changes_text found → line_outcome line ≡ changes_proof_outcome found
+line_of_changes None line is = ap line_outcome is
+line_of_changes (Some bytes) line is = ap line_outcome is
+
 -- ---- the ends of a run
 pub get_shared : {key : List ℕ} {w : ℕ} {before after : Outside} {end : End} → ReadPromises false (get_outcome key) w before after end → SharedRuns (Get key) w before after end
 get_shared {key = key} p = let r = p.store in record { words = r.words; read = r.read; write = r.write; disk = r.disk; store = r.store; own = own_of (Get key) r; limit = r.limit; complete = r.complete }
@@ -77,6 +83,9 @@ prove_shared {root = root} {key = key} p = let r = p.store in record { words = r
 
 pub range_shared : {root : RootWord} {asked : Bounds} {pairs bytes : ℕ} {w : ℕ} {before after : Outside} {end : End} → ReadPromises true (range_outcome w root asked pairs bytes) w before after end → SharedRuns (Range root asked pairs bytes) w before after end
 range_shared {root = root} {asked = asked} {pairs = pairs} {bytes = bytes} p = let r = p.store in record { words = r.words; read = r.read; write = r.write; disk = r.disk; store = r.store; own = own_of (Range root asked pairs bytes) r; limit = r.limit; complete = r.complete }
+
+pub changes_shared : {from to : RootWord} {asked : Bounds} {pairs bytes : ℕ} {w : ℕ} {before after : Outside} {end : End} → ReadPromises true (changes_outcome w from to asked pairs bytes) w before after end → SharedRuns (Changes from to asked pairs bytes) w before after end
+changes_shared {from = from} {to = to} {asked = asked} {pairs = pairs} {bytes = bytes} p = let r = p.store in record { words = r.words; read = r.read; write = r.write; disk = r.disk; store = r.store; own = own_of (Changes from to asked pairs bytes) r; limit = r.limit; complete = r.complete }
 
 -- an end that no reading comes to is none of a run that failed
 no_answer : {A : Type 0} (end : End) → (end ≢ Done) → (end ≢ NotHeld) → IsAnswer end → A

@@ -1,10 +1,10 @@
 -- From what the run of a job promises to what the run of its words does.
 use Rattle.std.proofs.Common.{◌≡◌, ℕ, List, Result, Ok, Err, sym, subst, ◌∙◌}
-use Rattle.run_model.specs.Command.{Root, Apply, Get, Prove, Range, Verify, Job, job_of}
+use Rattle.run_model.specs.Command.{Root, Apply, Get, Prove, Range, Changes, Verify, Job, job_of}
 use Rattle.run_model.specs.Outside.{Outside}
 use Rattle.run_model.specs.End.{End}
 use Rattle.run_model.specs.Outcome.{IsComplete}
-use Rattle.run_model.specs.Runs.{Needs, JobNeeds, outcome, job_outcome, AsksForStore, StoreHasCause, TellsOwn, IsOwnEnd, SharedRuns, command_runs, RootPart, ApplyPart, GetPart, ProvePart, RangePart, VerifyPart}
+use Rattle.run_model.specs.Runs.{Needs, JobNeeds, outcome, job_outcome, AsksForStore, StoreHasCause, TellsOwn, IsOwnEnd, SharedRuns, command_runs, RootPart, ApplyPart, GetPart, ProvePart, RangePart, ChangesPart, VerifyPart}
 
 pub words_complete : (given : List (List ℕ)) (job : Job) (before after : Outside) (end : End) → job_of given ≡ Ok job → SharedRuns job.command job.width before after end → IsComplete (Needs given) (outcome given) before after end
 words_complete given job before after end is shared = subst (λ (asked : Result Job ℕ). IsComplete (JobNeeds asked) (job_outcome asked) before after end) (sym is) shared.complete
@@ -32,6 +32,9 @@ prove_part given job before after end is runs = λ w root key asks. asked_for gi
 
 pub range_part : (given : List (List ℕ)) (job : Job) (before after : Outside) (end : End) → job_of given ≡ Ok job → command_runs job.command job.width before after end → RangePart given before after end
 range_part given job before after end is runs = λ w root range pairs bytes asks. asked_for given job (record { width = w; command = Range root range pairs bytes }) before after end is asks runs
+
+pub changes_part : (given : List (List ℕ)) (job : Job) (before after : Outside) (end : End) → job_of given ≡ Ok job → command_runs job.command job.width before after end → ChangesPart given before after end
+changes_part given job before after end is runs = λ w from to range pairs bytes asks. asked_for given job (record { width = w; command = Changes from to range pairs bytes }) before after end is asks runs
 
 pub verify_part : (given : List (List ℕ)) (job : Job) (before after : Outside) (end : End) → job_of given ≡ Ok job → command_runs job.command job.width before after end → VerifyPart given before after end
 verify_part given job before after end is runs = λ w asks. asked_for given job (record { width = w; command = Verify }) before after end is asks runs

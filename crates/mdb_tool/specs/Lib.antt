@@ -5,4 +5,5 @@ pub mod Asked
 pub mod Folder
 pub mod Opening
 pub mod Finding
+pub mod Hints
 pub mod Process

@@ -4,7 +4,6 @@ use Rattle.base_model.specs.Faults.{Rose}
 use Rattle.disk_model.specs.Moments.{LeavesOnly}
 use Rattle.disk_model.specs.Words.{TellsContents, TellsImages}
 use Rattle.trie_model.specs.Maps.{Map, limits}
-use Rattle.view_model.specs.Forest.{no_views}
 use Rattle.store_model.specs.Journal.{Stands}
 use Rattle.store_model.specs.Openings.{Opens}
 use Rattle.store_model.specs.Refusals.{Refused}
@@ -12,6 +11,7 @@ use Rattle.mdb_journal.specs.Moves.{AreSynced}
 use Rattle.mdb_core.specs.Stores.{DbState, is_failed}
 use Rattle.mdb_core.specs.Opens.{Opened}
 use Rattle.run_model.specs.Outside.{DiskSeen}
+use Rattle.script_run.specs.Steps.{IsJustOpened}
 use Rattle.run_model.specs.End.{End, Done, BadWords, BadLine, NotOpened, VerifyRefused, NotHeld, Limit, Read, Write, Disk, NoMemory}
 
 -- what a crash leaves while the store of any map is opened
@@ -22,7 +22,7 @@ KeepsMaps before after = TellsImages before.tells → (m : Map) → Stands limit
 pub record IsOpen (w : ℕ) (before after : DiskSeen) (s : DbState) : Type 0 where
   pub opened : TellsContents before.tells → Opened w before.files after.files s
   pub works : is_failed s ≡ false
-  pub no_view : s.forest ≡ no_views
+  pub fresh : IsJustOpened s
   pub width : s.width ≡ w
   pub synced : TellsImages before.tells → AreSynced after.files after.moments
   pub left : TellsImages before.tells → (m : Map) → Stands limits before.files m → LeavesOnly (λ image. Stands limits image m) after.moments.now

@@ -1,10 +1,11 @@
 // The words of the command line.
 ghost use Rattle.std.specs.Prelude.{◌≡◌, ◌<◌, ℕ, List, Result, Some, Ok, Err, IfOk, IfErr, map, option_map, string_bytes};
 ghost use Rattle.range_model.specs.Ranges.{Range as Bounds};
-ghost use Rattle.run_model.specs.Command.{Command as ModelCommand, Job as ModelJob, job_of, job_words, job_with, no_words, key_words, get_words, prove_words, range_words, end_word, in_folder as in_folder_of, factor_word};
+ghost use Rattle.run_model.specs.Command.{Command as ModelCommand, Job as ModelJob, job_of, job_words, job_with, no_words, key_words, get_words, prove_words, range_words, changes_words, word_then, asked_words, end_word, in_folder as in_folder_of, factor_word};
+ghost use Rattle.text_model.specs.Words.{RootWord as RootMeant, root_word};
 ghost use Rattle.bit_keys.specs.Branch.{width_of};
 ghost use Rattle.batch_text.specs.SeenLine.{seen_root};
-ghost use Rattle.mdb_tool.specs.ReadJob.{AreRead, seen_command, seen_job, bounds_words, bytes_words, counts_words, asked_words};
+ghost use Rattle.mdb_tool.specs.ReadJob.{AreRead, seen_command, seen_job, bounds_words, bytes_words, counts_words};
 
 use batch_text::{
     BoundWord, KeyWord, RangeWord, RootWord, read_bound_word, read_bytes_word, read_key_word,
@@ -27,6 +28,15 @@ pub(crate) enum Command {
     /// most.
     Range {
         root: RootWord,
+        range: RangeWord,
+        pairs: u32,
+        bytes: u32,
+    },
+    /// The proof of what changed in a range between two maps of a store that roots name, with so many changes and so many
+    /// bytes of them at most.
+    Changes {
+        from: RootWord,
+        to: RootWord,
         range: RangeWord,
         pairs: u32,
         bytes: u32,
@@ -129,66 +139,104 @@ fn read_end(start: Option<BoundWord>, word: &[u8]) -> Option<RangeWord>
     RangeWord::between(start, end)
 }
 
-// The two bounds of a range, which are words 5 and 6, and the words behind them.
-fn read_bounds(words: &[String]) -> Result<(RangeWord, &[String]), usize>
+// The two bounds of what is asked, of which the first stands at this place, and the words behind them.
+fn read_bounds(words: &[String], place: usize) -> Result<(RangeWord, &[String]), usize>
+    requires { place < 100 }
     ensures ok { IfOk result (λ read. (behind : Bounds → List (List ℕ) → Result ModelCommand ℕ) →
-        bounds_words behind (map string_bytes words.now) ≡ behind read.0 (map string_bytes read.1.now)) }
-    ensures err { IfErr result (λ place. (behind : Bounds → List (List ℕ) → Result ModelCommand ℕ) →
-        bounds_words behind (map string_bytes words.now) ≡ Err place) }
+        bounds_words place behind (map string_bytes words.now) ≡ behind read.0 (map string_bytes read.1.now)) }
+    ensures err { IfErr result (λ wrong. (behind : Bounds → List (List ℕ) → Result ModelCommand ℕ) →
+        bounds_words place behind (map string_bytes words.now) ≡ Err wrong) }
 {
     let Some((word, words)) = words.split_first() else {
-        return Err(5);
+        return Err(place);
     };
     let Some(start) = read_bound_word(word.as_bytes()) else {
-        return Err(5);
+        return Err(place);
     };
     let Some((word, words)) = words.split_first() else {
-        return Err(6);
+        return Err(place + 1);
     };
     match read_end(start, word.as_bytes()) {
         Some(range) => Ok((range, words)),
-        None => Err(6),
+        None => Err(place + 1),
     }
 }
 
-// How many bytes are asked for, which is word 8, and no word behind it.
-fn read_bytes(words: &[String]) -> Result<u32, usize>
-    ensures ok { IfOk result (λ bytes. (command : ℕ → ModelCommand) → bytes_words command (map string_bytes words.now) ≡ Ok (command bytes)) }
-    ensures err { IfErr result (λ place. (command : ℕ → ModelCommand) → bytes_words command (map string_bytes words.now) ≡ Err place) }
+// How many bytes are asked for, and no word behind that.
+fn read_bytes(words: &[String], place: usize) -> Result<u32, usize>
+    requires { place < 100 }
+    ensures ok { IfOk result (λ bytes. (command : ℕ → ModelCommand) → bytes_words place command (map string_bytes words.now) ≡ Ok (command bytes)) }
+    ensures err { IfErr result (λ wrong. (command : ℕ → ModelCommand) → bytes_words place command (map string_bytes words.now) ≡ Err wrong) }
 {
     let Some((word, others)) = words.split_first() else {
-        return Err(8);
+        return Err(place + 3);
     };
     match read_bytes_word(word.as_bytes()) {
         Some(bytes) if others.is_empty() => Ok(bytes),
-        Some(_) => Err(9),
-        None => Err(8),
+        Some(_) => Err(place + 4),
+        None => Err(place + 3),
     }
 }
 
-// How many pairs are asked for, which is word 7, and how many bytes of them.
-fn read_counts(words: &[String]) -> Result<(u32, u32), usize>
+// How many entries are asked for, and how many bytes of them.
+fn read_counts(words: &[String], place: usize) -> Result<(u32, u32), usize>
+    requires { place < 100 }
     ensures ok { IfOk result (λ counts. (command : ℕ → ℕ → ModelCommand) →
-        counts_words command (map string_bytes words.now) ≡ Ok (command counts.0 counts.1)) }
-    ensures err { IfErr result (λ place. (command : ℕ → ℕ → ModelCommand) →
-        counts_words command (map string_bytes words.now) ≡ Err place) }
+        counts_words place command (map string_bytes words.now) ≡ Ok (command counts.0 counts.1)) }
+    ensures err { IfErr result (λ wrong. (command : ℕ → ℕ → ModelCommand) →
+        counts_words place command (map string_bytes words.now) ≡ Err wrong) }
 {
     let Some((word, others)) = words.split_first() else {
-        return Err(7);
+        return Err(place + 2);
     };
     let Some(pairs) = read_pairs_word(word.as_bytes()) else {
-        return Err(7);
+        return Err(place + 2);
     };
-    let bytes = read_bytes(others)?;
+    let bytes = read_bytes(others, place)?;
     Ok((pairs, bytes))
 }
 
-// The words of `range` behind its root: two bounds and two counts.
-fn read_asked(root: RootWord, words: &[String]) -> Result<Command, usize>
-    ensures { AreRead seen_command result (asked_words (seen_root root) (map string_bytes words.now)) }
+// What is asked of a range, from this place on: two bounds and two counts.
+fn read_asked(words: &[String], place: usize) -> Result<(RangeWord, u32, u32), usize>
+    requires { place < 100 }
+    ensures ok { IfOk result (λ asked. (command : Bounds → ℕ → ℕ → ModelCommand) →
+        asked_words place command (map string_bytes words.now) ≡ Ok (command asked.0 asked.1 asked.2)) }
+    ensures err { IfErr result (λ wrong. (command : Bounds → ℕ → ℕ → ModelCommand) →
+        asked_words place command (map string_bytes words.now) ≡ Err wrong) }
 {
-    let (range, words) = read_bounds(words)?;
-    let (pairs, bytes) = read_counts(words)?;
+    let (range, words) = match read_bounds(words, place) {
+        Ok(read) => read,
+        Err(wrong) => return Err(wrong),
+    };
+    match read_counts(words, place) {
+        Ok((pairs, bytes)) => Ok((range, pairs, bytes)),
+        Err(wrong) => Err(wrong),
+    }
+}
+
+// A root at this place, and the words behind it.
+fn read_root(words: &[String], place: usize) -> Result<(RootWord, &[String]), usize>
+    requires { place < 100 }
+    ensures ok { IfOk result (λ read. (behind : RootMeant → List (List ℕ) → Result ModelCommand ℕ) →
+        word_then place root_word behind (map string_bytes words.now) ≡ behind (seen_root read.0) (map string_bytes read.1.now)) }
+    ensures err { IfErr result (λ wrong. (behind : RootMeant → List (List ℕ) → Result ModelCommand ℕ) →
+        word_then place root_word behind (map string_bytes words.now) ≡ Err wrong) }
+{
+    let Some((word, others)) = words.split_first() else {
+        return Err(place);
+    };
+    match read_root_word(word.as_bytes()) {
+        Some(root) => Ok((root, others)),
+        None => Err(place),
+    }
+}
+
+// The words of `range`: a root, and what is asked of its map.
+fn read_range(words: &[String]) -> Result<Command, usize>
+    ensures { AreRead seen_command result (range_words (map string_bytes words.now)) }
+{
+    let (root, words) = read_root(words, 4)?;
+    let (range, pairs, bytes) = read_asked(words, 5)?;
     Ok(Command::Range {
         root,
         range,
@@ -197,17 +245,20 @@ fn read_asked(root: RootWord, words: &[String]) -> Result<Command, usize>
     })
 }
 
-// The words of `range`: a root, and what is asked of its map.
-fn read_range(words: &[String]) -> Result<Command, usize>
-    ensures { AreRead seen_command result (range_words (map string_bytes words.now)) }
+// The words of `changes`: the former root, the later one, and what is asked of the changes between their maps.
+fn read_changes(words: &[String]) -> Result<Command, usize>
+    ensures { AreRead seen_command result (changes_words (map string_bytes words.now)) }
 {
-    let Some((word, others)) = words.split_first() else {
-        return Err(4);
-    };
-    match read_root_word(word.as_bytes()) {
-        Some(root) => read_asked(root, others),
-        None => Err(4),
-    }
+    let (from, words) = read_root(words, 4)?;
+    let (to, words) = read_root(words, 5)?;
+    let (range, pairs, bytes) = read_asked(words, 6)?;
+    Ok(Command::Changes {
+        from,
+        to,
+        range,
+        pairs,
+        bytes,
+    })
 }
 
 // The job of a command without words of its own, by the words behind the command.
@@ -246,6 +297,15 @@ fn read_range_job(words: &[String]) -> Result<Job, usize>
     Ok(Job { branch, command })
 }
 
+// The job of `changes`, by the words behind the command.
+fn read_changes_job(words: &[String]) -> Result<Job, usize>
+    ensures { AreRead seen_job result (job_words changes_words (map string_bytes words.now)) }
+{
+    let (branch, own) = read_branch(words)?;
+    let command = read_changes(own)?;
+    Ok(Job { branch, command })
+}
+
 // A job that uses a store, which has a folder.
 fn in_folder(folder: &str, job: Result<Job, usize>) -> Result<Job, usize>
     ensures { (meant : Result ModelJob ℕ) → AreRead seen_job job meant → AreRead seen_job result (in_folder_of folder.now meant) }
@@ -269,6 +329,7 @@ pub(crate) fn read_words(words: &[String]) -> Result<Job, usize>
         "get" => in_folder(folder.as_str(), read_get_job(words)),
         "prove" => in_folder(folder.as_str(), read_prove_job(words)),
         "range" => in_folder(folder.as_str(), read_range_job(words)),
+        "changes" => in_folder(folder.as_str(), read_changes_job(words)),
         "verify" => read_plain_job(Command::Verify, words),
         _ => Err(2),
     }

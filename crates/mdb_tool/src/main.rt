@@ -7,9 +7,11 @@
 #![tactic(auto)]
 
 mod apply_command;
+mod changes_command;
 mod command_line;
 mod get_command;
 mod help;
+mod hints;
 mod job;
 mod map_lines;
 mod opening;
@@ -24,15 +26,21 @@ mod tests;
 mod verify_command;
 
 use command_line::{read_command_line, with_folder};
-use process::carry_out;
+use process::{Terminals, carry_out};
 use real_world::{FileDisk, StdSink, StdSource};
 use std::env;
+use std::io::IsTerminal;
 use std::process::ExitCode;
 
 fn main(rt: HostRuntime) -> ExitCode {
     let (folder, words) = with_folder(rt.alloc(), read_command_line(rt.alloc(), env::args(&rt)));
+    let terminals = Terminals {
+        input: rt.stdin().is_terminal(),
+        errors: rt.stderr().is_terminal(),
+    };
     carry_out(
         rt.alloc(),
+        terminals,
         words,
         &mut StdSource::new(rt.stdin()),
         &mut StdSink::new(rt.stdout()),

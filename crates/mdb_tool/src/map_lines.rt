@@ -61,6 +61,7 @@ fn lay_line(digests: &mut Digests, line: Line) -> Result<(), NoMemory>
         | Line::Prove { .. }
         | Line::Point { .. }
         | Line::RangeOf { .. }
+        | Line::ChangesOf { .. }
         | Line::VerifyRange { .. } => Ok(()),
         Line::Put { key, value } => digests.put(key, value_digest(&value)),
         Line::Del { key } => {

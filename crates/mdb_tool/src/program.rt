@@ -2,12 +2,13 @@
 ghost use Rattle.std.specs.Prelude.{map, string_bytes};
 ghost use Rattle.run_model.specs.Outside.{outside, disk_seen};
 ghost use Rattle.run_model.specs.Outcome.{IsComplete};
-ghost use Rattle.run_model.specs.Runs.{outcome, Needs, command_runs, TellsWords, WordsTouchNothing, ReadHasCause, WriteHasCause, DiskHasCause, StoreHasCause, InputLimitHasCause, TellsOwn, SharedRuns, RootPart, ApplyPart, GetPart, ProvePart, RangePart, VerifyPart};
+ghost use Rattle.run_model.specs.Runs.{outcome, Needs, command_runs, TellsWords, WordsTouchNothing, ReadHasCause, WriteHasCause, DiskHasCause, StoreHasCause, InputLimitHasCause, TellsOwn, SharedRuns, RootPart, ApplyPart, GetPart, ProvePart, RangePart, ChangesPart, VerifyPart};
 ghost use Rattle.bit_keys.specs.Branch.{width_of};
 ghost use Rattle.mdb_tool.specs.Ends.{end_of};
 ghost use Rattle.mdb_tool.specs.ReadJob.{seen_command};
 
 use crate::apply_command::run_apply;
+use crate::changes_command::{Asked as AskedChanges, run_changes};
 use crate::get_command::run_get;
 use crate::job::{Command, Job, read_words};
 use crate::prove_command::run_prove;
@@ -66,6 +67,9 @@ pub fn run<S: Source, K: Sink, D: Disk>(
     ensures range { let before = outside (S.left input.old) (S.faults input.old) (K.taken out.old) (K.faults out.old) (disk_seen D.words disk.old) in
         let after = outside (S.left input.new) (S.faults input.new) (K.taken out.new) (K.faults out.new) (disk_seen D.words disk.new) in
         RangePart (map string_bytes words.now) before after (end_of result) }
+    ensures changes { let before = outside (S.left input.old) (S.faults input.old) (K.taken out.old) (K.faults out.old) (disk_seen D.words disk.old) in
+        let after = outside (S.left input.new) (S.faults input.new) (K.taken out.new) (K.faults out.new) (disk_seen D.words disk.new) in
+        ChangesPart (map string_bytes words.now) before after (end_of result) }
     ensures verify { let before = outside (S.left input.old) (S.faults input.old) (K.taken out.old) (K.faults out.old) (disk_seen D.words disk.old) in
         let after = outside (S.left input.new) (S.faults input.new) (K.taken out.new) (K.faults out.new) (disk_seen D.words disk.new) in
         VerifyPart (map string_bytes words.now) before after (end_of result) }
@@ -110,6 +114,22 @@ fn run_job<S: Source, K: Sink, D: Disk>(
                 bytes,
             };
             run_range(alloc, branch, &asked, out, disk)
+        }
+        Command::Changes {
+            from,
+            to,
+            range,
+            pairs,
+            bytes,
+        } => {
+            let asked = AskedChanges {
+                from,
+                to,
+                range,
+                pairs,
+                bytes,
+            };
+            run_changes(alloc, branch, &asked, out, disk)
         }
         Command::Verify => run_verify(alloc, branch, input, out),
     }

@@ -2,7 +2,7 @@ use Rattle.std.proofs.Common.{Err, ap}
 use Rattle.bit_keys.specs.Branch.{width_of}
 use Rattle.run_model.specs.Outside.{disk_seen}
 use Rattle.mdb_core.specs.declared.fault.DbFault.{DbFault}
-use Rattle.mdb_tool.proofs.Openings.{opening_fails}
+use Rattle.mdb_tool.proofs.Openings.{opening_fails, just_opened}
 use Rattle.mdb_tool.proofs.opening.open_store.Goals as goal
 
 pub returns-in-Err-clause-fails : goal.returns-in-Err-clause-fails
@@ -16,4 +16,4 @@ returns-in-Err-clause-fails g c =
 pub returns-in-Ok-clause-opened : goal.returns-in-Ok-clause-opened
 returns-in-Ok-clause-opened g c =
     let e = c.in-Ok.ensures in
-    record { opened = e.opened; works = e.works.0; no_view = e.works.1; width = e.works.2; synced = e.synced; left = e.left }
+    record { opened = e.opened; works = e.works.0; fresh = just_opened c.in-Ok.db e.works.1 e.history; width = e.works.2; synced = e.synced; left = e.left }

@@ -76,6 +76,24 @@ returns-in-Range-clause-runs g c =
     let after = outside left reads (g.K.Sink.taken c.run_range.new.out) (g.K.Sink.faults c.run_range.new.out) (disk_seen g.D.Disk.words c.run_range.new.disk) in
     subst (λ (command : Command). command_runs (seen_command command) w before after (end_of c.run_range.result)) (sym c.in-Range.is) (c.run_range.ensures.range left reads)
 
+pub returns-in-Changes-clause-shared : goal.returns-in-Changes-clause-shared
+returns-in-Changes-clause-shared g c =
+    let w = width_of c.args.job.branch in
+    let left = g.S.Source.left c.args.input.now in
+    let reads = g.S.Source.faults c.args.input.now in
+    let before = outside left reads (g.K.Sink.taken c.args.out.now) (g.K.Sink.faults c.args.out.now) (disk_seen g.D.Disk.words c.args.disk.now) in
+    let after = outside left reads (g.K.Sink.taken c.run_changes.new.out) (g.K.Sink.faults c.run_changes.new.out) (disk_seen g.D.Disk.words c.run_changes.new.disk) in
+    subst (λ (command : Command). SharedRuns (seen_command command) w before after (end_of c.run_changes.result)) (sym c.in-Changes.is) (c.run_changes.ensures.shared left reads)
+
+pub returns-in-Changes-clause-runs : goal.returns-in-Changes-clause-runs
+returns-in-Changes-clause-runs g c =
+    let w = width_of c.args.job.branch in
+    let left = g.S.Source.left c.args.input.now in
+    let reads = g.S.Source.faults c.args.input.now in
+    let before = outside left reads (g.K.Sink.taken c.args.out.now) (g.K.Sink.faults c.args.out.now) (disk_seen g.D.Disk.words c.args.disk.now) in
+    let after = outside left reads (g.K.Sink.taken c.run_changes.new.out) (g.K.Sink.faults c.run_changes.new.out) (disk_seen g.D.Disk.words c.run_changes.new.disk) in
+    subst (λ (command : Command). command_runs (seen_command command) w before after (end_of c.run_changes.result)) (sym c.in-Changes.is) (c.run_changes.ensures.changes left reads)
+
 pub returns-in-Verify-clause-shared : goal.returns-in-Verify-clause-shared
 returns-in-Verify-clause-shared g c =
     let disk = disk_seen g.D.Disk.words c.args.disk.now in

@@ -3,11 +3,12 @@ use Rattle.std.specs.Prelude.{option_map, string_bytes}
 use Rattle.bit_keys.specs.Branch.{width_of}
 use Rattle.batch_text.specs.SeenLine.{seen_root}
 use Rattle.text_model.specs.Texts.{proof_text}
-use Rattle.session_model.specs.Named.{proved}
+use Rattle.session_model.specs.Named.{holds_first, proved}
 use Rattle.run_model.specs.Outside.{disk_seen}
 use Rattle.run_model.specs.Prove.{prove_outcome}
-use Rattle.mdb_core.specs.Stores.{DbState, is_failed}
-use Rattle.mdb_tool.proofs.Openings.{reading_fails, untouched_keeps}
+use Rattle.trie_model.specs.Maps.{Map}
+use Rattle.mdb_core.specs.Stores.{DbState, held_maps, is_failed}
+use Rattle.mdb_tool.proofs.Openings.{reading_fails, untouched_keeps, first_held}
 use Rattle.mdb_tool.specs.Finding.{IsLineOf}
 use Rattle.mdb_tool.proofs.ReadEnds.{found_in, line_of_proof}
 use Rattle.mdb_tool.proofs.prove_command.look_up.Goals as goal
@@ -33,8 +34,9 @@ returns-in-Ok-close-clause-found g c =
     let line = option_map string_bytes c.in-Ok-proof_line.line in
     rw c.close.ensures.disk
     (found_in (IsLineOf (prove_outcome w root key) line) w (disk_seen words c.args.disk.now) (disk_seen words c.open_store.new.disk) (disk_seen words c.proof_line.new.disk) c.in-Ok.db c.in-Ok.ensures.opened c.proof_line.ensures.untouched
-    (λ tells m keeps. line_of_proof (proved w m root key) line
-    (subst (λ (v : ℕ). line ≡ option_map proof_text (proved v m root key)) c.in-Ok.ensures.opened.width (c.in-Ok-proof_line.ensures.text tells m keeps))))
+    (λ tells m keeps. line_of_proof (proved w (holds_first m).maps root key) line
+    (subst (λ (maps : List Map). line ≡ option_map proof_text (proved w maps root key)) (first_held c.in-Ok.db c.in-Ok.ensures.opened.fresh m)
+    (subst (λ (v : ℕ). line ≡ option_map proof_text (proved v (held_maps c.in-Ok.db m) root key)) c.in-Ok.ensures.opened.width (c.in-Ok-proof_line.ensures.text tells m keeps)))))
 
 pub returns-in-Ok-close-clause-opens : goal.returns-in-Ok-close-clause-opens
 returns-in-Ok-close-clause-opens g c =

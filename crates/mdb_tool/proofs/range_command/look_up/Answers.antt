@@ -4,11 +4,12 @@ use Rattle.bit_keys.specs.Branch.{width_of}
 use Rattle.range_model.specs.Ranges.{Range}
 use Rattle.batch_text.specs.SeenLine.{seen_root}
 use Rattle.text_model.specs.Texts.{range_text}
-use Rattle.session_model.specs.Named.{range_proved}
+use Rattle.session_model.specs.Named.{holds_first, range_proved}
 use Rattle.run_model.specs.Outside.{disk_seen}
 use Rattle.run_model.specs.Range.{range_outcome}
-use Rattle.mdb_core.specs.Stores.{DbState, is_failed}
-use Rattle.mdb_tool.proofs.Openings.{open_stands, reading_fails, untouched_keeps}
+use Rattle.trie_model.specs.Maps.{Map}
+use Rattle.mdb_core.specs.Stores.{DbState, held_maps, is_failed}
+use Rattle.mdb_tool.proofs.Openings.{open_stands, reading_fails, untouched_keeps, first_held}
 use Rattle.mdb_tool.specs.Finding.{IsLineOf}
 use Rattle.mdb_tool.proofs.ReadEnds.{found_in, line_of_range}
 use Rattle.mdb_tool.proofs.range_command.look_up.Goals as goal
@@ -36,9 +37,10 @@ returns-in-Ok-close-clause-found g c =
     let line = option_map string_bytes c.in-Ok-range_line.line in
     rw c.close.ensures.disk
     (found_in (IsLineOf (range_outcome w root asked pairs bytes) line) w (disk_seen words c.args.disk.now) (disk_seen words c.open_store.new.disk) (disk_seen words c.range_line.new.disk) c.in-Ok.db c.in-Ok.ensures.opened c.range_line.ensures.untouched
-    (λ tells m keeps. line_of_range (range_proved w m root asked pairs bytes) line
-    (subst (λ (r : Range). line ≡ option_map range_text (range_proved w m root r pairs bytes)) c.in-Ok-to_range.ensures
-    (subst (λ (v : ℕ). line ≡ option_map range_text (range_proved v m root c.in-Ok-to_range.range pairs bytes)) c.in-Ok.ensures.opened.width (c.in-Ok-range_line.ensures.text tells m keeps)))))
+    (λ tells m keeps. line_of_range (range_proved w (holds_first m).maps root asked pairs bytes) line
+    (subst (λ (maps : List Map). line ≡ option_map range_text (range_proved w maps root asked pairs bytes)) (first_held c.in-Ok.db c.in-Ok.ensures.opened.fresh m)
+    (subst (λ (r : Range). line ≡ option_map range_text (range_proved w (held_maps c.in-Ok.db m) root r pairs bytes)) c.in-Ok-to_range.ensures
+    (subst (λ (v : ℕ). line ≡ option_map range_text (range_proved v (held_maps c.in-Ok.db m) root c.in-Ok-to_range.range pairs bytes)) c.in-Ok.ensures.opened.width (c.in-Ok-range_line.ensures.text tells m keeps))))))
 
 pub returns-in-Ok-close-clause-opens : goal.returns-in-Ok-close-clause-opens
 returns-in-Ok-close-clause-opens g c =
