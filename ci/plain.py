@@ -2,6 +2,7 @@
 
 It follows docs/definitions.md and docs/formats.md and nothing of the program.
 """
+import functools
 import hashlib
 import os
 
@@ -30,6 +31,8 @@ def key_form(tokens, width):
     return uvarint(len(bits)) + bytes(int(padded[at : at + 8], 2) for at in range(0, len(padded), 8))
 
 
+# a script may put one long value at a thousand keys
+@functools.lru_cache(maxsize=64)
 def value_digest(value):
     """The value itself below 32 bytes, else its SHA-256."""
     return value if len(value) < 32 else hashlib.sha256(value).digest()

@@ -1,5 +1,5 @@
-"""What point proofs and range proofs are, written plainly, for the scripts beside this one: how they are made, spelled,
-read and checked.
+"""What point proofs, range proofs and change proofs are, written plainly, for the scripts beside this one: how they are
+made, spelled, read and checked.
 
 It follows docs/definitions.md and docs/formats.md and nothing of the program. A key of the trie is a tuple of tokens here,
 of `width` bits each. Run as a script it compares itself with proofs that are written out by hand, byte for byte.
@@ -8,10 +8,10 @@ import hashlib
 import os
 from dataclasses import dataclass, replace
 
-from plain import KEY, VALUE, key_form, root_of, sized, tokens_of, uvarint, value_digest
+from plain import KEY, VALUE, key_form, laid, root_of, sized, tokens_of, uvarint, value_digest
 
 NODE_BITS = 2_048
-VERSION, RANGE, POINT = 1, 1, 4
+VERSION, RANGE, CHANGES, POINT = 1, 1, 2, 4
 ZERO = bytes(32)
 
 
@@ -49,6 +49,17 @@ class RangeProof:
 
     cut: bool
     pairs: tuple
+    start: tuple
+    end: tuple
+
+
+@dataclass(frozen=True)
+class ChangeProof:
+    """Changes of a range, each a key with its new value, or None where it is deleted; whether others of it follow; and the
+    paths of its start and of the end up to which they tell, in the later map."""
+
+    cut: bool
+    changes: tuple
     start: tuple
     end: tuple
 
@@ -126,10 +137,10 @@ def prove(pairs, key, width=4, nodes=None):
 
 
 def taken(pairs, count, size):
-    """As many of the pairs as a count and a number of bytes allow, but one at least."""
+    """As many of the pairs, or of the changes, as a count and a number of bytes allow, but one at least."""
     used = 0
     for place, (key, value) in enumerate(pairs):
-        used += len(key) + len(value)
+        used += len(key) + len(value or b"")
         if place and (place >= count or used > size):
             return pairs[:place]
     return pairs
@@ -153,6 +164,21 @@ def prove_range(pairs, asked, count, size, width=4, nodes=None):
     cut = some != inside
     bounds = reached(asked, cut, some)
     return RangeProof(cut, some, path_to(nodes, bounds.start, width), path_to(nodes, bounds.end, width))
+
+
+def changed(former, later, asked=Range()):
+    """The changes in a range that lead from one map to another, in the order of their keys."""
+    keys = [key for key in {*former, *later} if former.get(key) != later.get(key) and asked.holds(key)]
+    return tuple((key, later.get(key)) for key in sorted(keys))
+
+
+def prove_changes(former, later, asked, count, size, width=4):
+    """The proof of what changed in a range from one map to another, in which so many changes of so many bytes may be listed."""
+    nodes, inside = nodes_of(later, width), changed(former, later, asked)
+    some = taken(inside, count, size)
+    cut = some != inside
+    bounds = reached(asked, cut, some)
+    return ChangeProof(cut, some, path_to(nodes, bounds.start, width), path_to(nodes, bounds.end, width))
 
 
 # Bytes.
@@ -179,6 +205,16 @@ def spelled_range(proof, width=4):
     """The bytes of a range proof: version, kind, whether it is cut, the pairs, both paths."""
     paths = path_form(proof.start, width) + path_form(proof.end, width)
     return bytes([VERSION, RANGE, proof.cut]) + pairs_form(proof.pairs) + paths
+
+
+def changes_form(changes):
+    return uvarint(len(changes)) + b"".join(sized(key) + digest_form(value) for key, value in changes)
+
+
+def spelled_changes(proof, width=4):
+    """The bytes of a change proof: version, kind, whether it is cut, the changes, both paths."""
+    paths = path_form(proof.start, width) + path_form(proof.end, width)
+    return bytes([VERSION, CHANGES, proof.cut]) + changes_form(proof.changes) + paths
 
 
 class Wrong(Exception):
@@ -271,6 +307,12 @@ class Reader:
             found.append((self.sized(KEY, "LongKey"), self.sized(VALUE, "LongValue")))
         return tuple(found)
 
+    def changes(self):
+        found = []
+        for _ in range(self.number()):
+            found.append((self.sized(KEY, "LongKey"), self.maybe(VALUE, "LongValue")))
+        return tuple(found)
+
     def head(self, kind):
         self.byte(VERSION, "Version")
         self.byte(kind, "Kind")
@@ -294,6 +336,15 @@ def read_range(some, width=4):
     reader = Reader(some)
     reader.head(RANGE)
     proof = RangeProof(reader.flag(), reader.pairs(), reader.path(width), reader.path(width))
+    reader.end()
+    return proof
+
+
+def read_changes(some, width=4):
+    """The change proof that bytes stand for. Raises Wrong where they stand for none."""
+    reader = Reader(some)
+    reader.head(CHANGES)
+    proof = ChangeProof(reader.flag(), reader.changes(), reader.path(width), reader.path(width))
     reader.end()
     return proof
 
@@ -450,6 +501,21 @@ def range_answer(root, asked, some, width=4):
     return told(claim, refusal(root, asked, claim, width))
 
 
+def change_claim(asked, local, proof):
+    """A change proof by one who has a local map: its pairs up to where the changes tell, once these are made."""
+    bounds, after = reached(asked, proof.cut, proof.changes), laid(local, dict(proof.changes))
+    return Claim(bounds, tuple(it for it in sorted(after.items()) if bounds.holds(it[0])), proof.start, proof.end)
+
+
+def leads(root, asked, local, some, width=4):
+    """Whether bytes are a change proof that leads a local map to the maps with a root: its changes are in order and in the
+    range, each of them changes something, and what they make is accepted as a claim."""
+    proof = read_changes(some, width)
+    keys = [key for key, _ in proof.changes]
+    is_good = keys == sorted({*keys}) and all(map(asked.holds, keys)) and all(local.get(key) != value for key, value in proof.changes)
+    return is_good and refusal(root, asked, change_claim(asked, local, proof), width) is None
+
+
 def told(claim, cause):
     return cause is None, cause or f"ok {len(claim.pairs)}"
 
@@ -525,6 +591,35 @@ REFUSED_RANGES = [
     (("*", "*"), "01 01 01 00 00 00", f"root differs {'00' * 32} {NEAR_ROOT}"),
 ]
 
+# A map and a later one, a start and an end, how many changes and bytes are allowed, and the bytes of the proof, at factor 16.
+LEFT = {b"\x0b": b"\x62"}
+WORKED_CHANGES = [
+    ({b"\x0a": b"\x61"}, {b"\x0a": b"\x61", b"\x0b": b"\x63"}, ("*", "*"), 10, 1000, "01 02 00 01 01 0b 01 01 63 00 00"),
+    (NEAR, NEAR, ("*", "*"), 10, 1000, "01 02 00 00 00 00"),
+    ({}, NEAR, ("*", "*"), 2, 4, "01 02 00 02 01 0a 01 01 61 01 0b 01 01 62 00 00"),
+    ({}, NEAR, ("*", "*"), 1, 4, f"01 02 01 01 01 0a 01 01 61 00 {WAY}"),
+    ({}, NEAR, ("*", "*"), 2, 3, f"01 02 01 01 01 0a 01 01 61 00 {WAY}"),
+    ({}, NEAR, ("0a", "*"), 2, 1, f"01 02 01 01 01 0a 01 01 61 {WAY} {WAY}"),
+    ({b"\x0a": b"\x63", b"\x0c": b"\x63"}, NEAR, ("-", "0a"), 10, 1000, f"01 02 00 01 01 0a 01 01 61 01 {ABOVE} {WAY}"),
+    # a deletion weighs its key alone, and the paths are those of the later map
+    (NEAR, LEFT, ("*", "0a"), 10, 1000, "01 02 00 01 01 0a 00 00 01 08 0b 01 01 62 00"),
+    (NEAR, {}, ("*", "*"), 10, 2, "01 02 00 02 01 0a 00 01 0b 00 00 00"),
+    (NEAR, {}, ("*", "*"), 10, 1, "01 02 01 01 01 0a 00 00 00"),
+    ({**NEAR, b"": b""}, {b"": b"\0"}, ("*", "*"), 2, 2, "01 02 01 02 00 01 01 00 01 0a 00 00 01 00 01 01 00 00"),
+]
+
+# Of two such maps bytes that lead the former one to nothing with the root of the later: a change is left out, is not so, is
+# idle, is outside of the range, or is said to be the last, and two are swapped.
+MISLEADING = [
+    ({}, NEAR, ("*", "*"), "01 02 00 01 01 0a 01 01 61 00 00"),
+    ({}, NEAR, ("*", "*"), "01 02 00 02 01 0a 01 01 63 01 0b 01 01 62 00 00"),
+    (LEFT, NEAR, ("*", "*"), "01 02 00 02 01 0a 01 01 61 01 0b 01 01 62 00 00"),
+    (NEAR, NEAR, ("*", "*"), "01 02 00 01 01 0c 00 00 00"),
+    (LEFT, NEAR, ("*", "0a"), f"01 02 00 02 01 0a 01 01 61 01 0c 01 01 63 00 {WAY}"),
+    ({}, NEAR, ("*", "*"), f"01 02 00 01 01 0a 01 01 61 00 {WAY}"),
+    ({}, NEAR, ("*", "*"), "01 02 00 02 01 0b 01 01 62 01 0a 01 01 61 00 00"),
+]
+
 # Bytes that are no proof at factor 16, with what is wrong and where.
 FAULTS = [
     ("", "Short", 0),
@@ -586,6 +681,19 @@ RANGE_FAULTS = [
 ]
 
 
+# And of change proofs.
+CHANGE_FAULTS = [
+    ("01 01 00 00 00 00", "Kind", 1),
+    ("01 02 02", "Flag", 2),
+    ("01 02 00", "Varint Short", 3),
+    ("01 02 00 01 81 02" + "00" * 257 + "00 00 00", "LongKey", 4),
+    ("01 02 00 01 01 0a", "Short", 6),
+    ("01 02 00 01 01 0a 02", "Flag", 6),
+    ("01 02 00 01 01 0a 01 81 80 10", "LongValue", 7),
+    ("01 02 00 01 01 0a 00 00 00 00", "Trailing", 9),
+]
+
+
 def is_read(some, width=4, reads=read):
     try:
         return reads(some, width)
@@ -611,10 +719,12 @@ def selftest():
     for text, *fault in FAULTS:
         assert is_read(bytes.fromhex(text)) == tuple(fault), (text, fault, is_read(bytes.fromhex(text)))
     ranges_as_written()
+    changes_as_written()
     for width in (1, 2, 4, 8):
         pairs = {bytes([n % 3, n][: n % 3]) + bytes([n // 7]): bytes(n) for n in range(40)}
         proves_all(pairs, width)
         proves_ranges(pairs, width)
+        proves_changes(pairs, width)
 
 
 def ranges_as_written():
@@ -629,6 +739,20 @@ def ranges_as_written():
         assert told == (False, cause), (bounds, text, told)
     for text, *fault in RANGE_FAULTS:
         told = is_read(bytes.fromhex(text), reads=read_range)
+        assert told == tuple(fault), (text, fault, told)
+
+
+def changes_as_written():
+    for former, later, bounds, count, size, text in WORKED_CHANGES:
+        asked, some = Range(*map(bound_of, bounds)), bytes.fromhex(text)
+        proof = prove_changes(former, later, asked, count, size)
+        assert spelled_changes(proof) == some and read_changes(some) == proof, (former, later, asked, spelled_changes(proof).hex())
+        assert leads(root_of(later), asked, former, some), (former, later, asked)
+    for former, later, bounds, text in MISLEADING:
+        asked, some = Range(*map(bound_of, bounds)), bytes.fromhex(text)
+        assert not leads(root_of(later), asked, former, some), (former, later, text)
+    for text, *fault in CHANGE_FAULTS:
+        told = is_read(bytes.fromhex(text), reads=read_changes)
         assert told == tuple(fault), (text, fault, told)
 
 
@@ -657,6 +781,22 @@ def proves_ranges(pairs, width):
                 some = spelled_range(proof, width)
                 assert read_range(some, width) == proof and proof.cut == (len(proof.pairs) < inside), (asked, width)
                 assert range_answer(root, asked, some, width) == (True, f"ok {len(proof.pairs)}"), (asked, width)
+
+
+def proves_changes(pairs, width):
+    """What leads from a map and to it, of few pairs and of many, in all keys and in some, whatever is allowed."""
+    keys = sorted(pairs)
+    other = {**{key: pairs[key] for key in keys[::3]}, keys[1]: b"\1", keys[-1] + b"\0": b"", b"": b"x"}
+    bounds = [None, b"", *keys[1::9], b"\xff\xff"]
+    for former, later in ((pairs, other), (other, pairs), ({}, pairs), (pairs, {}), (pairs, pairs)):
+        root = root_of(later, width)
+        for asked in (Range(start, end) for start in bounds for end in bounds if None in (start, end) or start <= end):
+            inside = len(changed(former, later, asked))
+            for count, size in ((100, 10_000), (3, 10_000), (100, 20), (1, 1)):
+                proof = prove_changes(former, later, asked, count, size, width)
+                some = spelled_changes(proof, width)
+                assert read_changes(some, width) == proof and proof.cut == (len(proof.changes) < inside), (asked, width)
+                assert leads(root, asked, former, some, width), (former, later, asked, width)
 
 
 if __name__ == "__main__":

@@ -4,11 +4,12 @@ It follows docs/formats.md and docs/definitions.md and nothing of the program. A
 it was made on, and its own number. The store has a path too, the numbers that were committed.
 """
 from plain import KEY, VALUE, laid, payload, root_of
-from plain_proofs import ZERO, Range, prove, prove_range, spelled, spelled_range
+from plain_history import held
+from plain_proofs import ZERO, Range, prove, prove_changes, prove_range, spelled, spelled_changes, spelled_range
 
 NUMBERS, DEPTH, WEIGHT = 1_000_000, 64, 268_435_456
 PAYLOAD, PAIRS = 33_554_432, 1_000_000
-# What may be asked of a range: the bytes of a bound, how many pairs, and how many bytes of them.
+# What may be asked of a range: the bytes of a bound, how many pairs or changes, and how many bytes of them.
 BOUND, LISTED, SIZE = KEY + 1, 4_096, 2_097_152
 
 
@@ -90,14 +91,20 @@ WORDS = {
     b"root": (place_of,),
     b"prove": (root_word, lambda it: bytes_of(it, KEY)),
     b"range": (root_word, bound_word, bound_word, count_up_to(LISTED), count_up_to(SIZE)),
+    b"changes": (root_word, root_word, bound_word, bound_word, count_up_to(LISTED), count_up_to(SIZE)),
 }
 
 
 class Session:
     def __init__(self, pairs, width=4):
-        self.pairs, self.width = pairs, width
+        # the maps that are held, the present one first
+        self.maps, self.width = [pairs], width
         self.path, self.views, self.pending = [], [], {}
         self.printed = []
+
+    @property
+    def pairs(self):
+        return self.maps[0]
 
     # Views.
 
@@ -159,7 +166,7 @@ class Session:
         pairs = laid(self.pairs, batch)
         if len(pairs) > PAIRS:
             raise Limit(b"pairs")
-        self.pairs = pairs
+        self.maps = held([pairs, *self.maps])
 
     def do_commit(self):
         if len(self.views) >= NUMBERS or len(payload(self.pending)) > PAYLOAD:
@@ -217,10 +224,33 @@ class Session:
         return self.tell(b"refused", why) if why else self.tell(b"root", self.root(self.map_of(place)))
 
     def named(self, root):
-        """The map that a ROOT names, or None. Held are the present map and the empty one."""
-        if root in (b"now", 0) or root == root_of(self.pairs, self.width):
+        """The map that a ROOT names, or None: one by its place, or the latest held one with this root. Where no held map has
+        it, the root of the empty map names that."""
+        if root == b"now":
             return self.pairs
-        return {} if root in (b"empty", ZERO) else None
+        if isinstance(root, int):
+            return self.maps[root] if root < len(self.maps) else None
+        root = ZERO if root == b"empty" else root
+        alike = (it for it in self.maps if root_of(it, self.width) == root)
+        return next(alike, {} if root == ZERO else None)
+
+    def from_root_on(self, maps, root):
+        """The latest of some maps with a root, and those before it."""
+        return next((maps[place:] for place, it in enumerate(maps) if root_of(it, self.width) == root), [])
+
+    def meant(self, root):
+        """The root that a ROOT means, or None."""
+        place = {b"now": 0}.get(root, root)
+        if isinstance(place, int):
+            return root_of(self.maps[place], self.width) if place < len(self.maps) else None
+        return ZERO if root == b"empty" else root
+
+    def between(self, former, later):
+        """The two maps that two ROOTs name for changes, or None: the later is looked up first, the former at it or before it.
+        The empty map is one like any other here: it has to be held."""
+        below = self.from_root_on(self.maps, self.meant(later))
+        behind = self.from_root_on(below, self.meant(former))
+        return (behind[0], below[0]) if behind else None
 
     def do_prove(self, root, key):
         pairs = self.named(root)
@@ -236,6 +266,15 @@ class Session:
             return self.tell(b"refused not held")
         proof = prove_range(pairs, Range(start, end), count, size, self.width)
         return self.tell(b"range", hexed(spelled_range(proof, self.width)))
+
+    def do_changes(self, former, later, start, end, count, size):
+        if start is not None and end is not None and end < start:
+            raise BadLine
+        maps = self.between(former, later)
+        if maps is None:
+            return self.tell(b"refused not held")
+        proof = prove_changes(*maps, Range(start, end), count, size, self.width)
+        return self.tell(b"changes", hexed(spelled_changes(proof, self.width)))
 
     def do(self, line):
         words = line.replace(b"\t", b" ").split(b" ")
