@@ -9,9 +9,9 @@ _mdb() {
             mapfile -t COMPREPLY < <(compgen -W "$offered" -- "$word"; compgen -d -- "$word")
             return
             ;;
-        2:*) offered='root apply get prove range verify' ;;
-        3:root | 3:apply | 3:get | 3:prove | 3:range | 3:verify) offered='2 4 16 256' ;;
-        4:prove | 4:range) offered='now empty' ;;
+        2:*) offered='root apply get prove range changes verify' ;;
+        3:root | 3:apply | 3:get | 3:prove | 3:range | 3:changes | 3:verify) offered='2 4 16 256' ;;
+        4:prove | 4:range | 4:changes | 5:changes) offered='now empty' ;;
     esac
     # where one of these is the command, nothing is offered in the place of a key
     mapfile -t COMPREPLY < <(compgen -W "$offered" -- "$word")

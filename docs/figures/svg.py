@@ -31,12 +31,16 @@ class Drawing:
             f'<line x1="{x}" y1="{y}" x2="{to_x}" y2="{to_y}" stroke="{edge}" stroke-width="{width}"{dashes}/>'
         )
 
-    def text(self, x, y, some, fill=INK, mono=False, at="start", bold=False, size=SIZE):
-        """A text whose baseline is at y: it starts at x, ends there or has its middle there."""
+    def text(self, x, y, some, fill=INK, mono=False, at="start", bold=False, size=SIZE, clear=False):
+        """A text whose baseline is at y: it starts at x, ends there or has its middle there.
+
+        A clear one hides the lines that it crosses.
+        """
         more = ' font-family="DejaVu Sans Mono, Menlo, Consolas, monospace"' if mono else ""
         more += ' font-weight="bold"' if bold else ""
         more += f' font-size="{size}"' if size != SIZE else ""
         more += f' text-anchor="{at}"' if at != "start" else ""
+        more += f' stroke="{PAPER}" stroke-width="5" paint-order="stroke"' if clear else ""
         self.parts.append(f'<text x="{x}" y="{y}" fill="{fill}" xml:space="preserve"{more}>{escape(some)}</text>')
 
     def texts(self, x, y, lines, step=18, **how):
