@@ -11,7 +11,7 @@ use Rattle.batch_text.specs.declared.number_words.PlaceWord.TheVariants as read_
 use Rattle.batch_text.specs.declared.root_words.RootWord.{RootWord as ReadRoot}
 use Rattle.batch_text.specs.declared.root_words.RootWord.TheVariants as read_root
 use Rattle.text_model.specs.LineKind.{LineKind, TooLong, Word, Count, Hex, LongKey, LongValue, Number, Place, Root as NoRoot, Bounds}
-use Rattle.text_model.specs.ReadLine.{InputKind, Batch, Script, Verify, Line, Skip, Put, Del, Commit, View, Take, Close, State, Get, Root, Prove, Point, RangeOf, ChangesOf, VerifyRange}
+use Rattle.text_model.specs.ReadLine.{InputKind, Batch, Script, Verify, Line, Skip, Put, Del, Commit, View, Take, Close, State, Get, Root, Prove, Point, RangeOf, ChangesOf, VerifyRange, VerifyChanges}
 use Rattle.text_model.specs.Words.{PlaceWord, Db, View as OfView, RootWord, Id, Now, Empty, Back}
 
 abbrev pub seen_input : ReadInput → InputKind
@@ -45,6 +45,7 @@ seen_line (read.Point root key proof) = Point root key.items proof.items
 seen_line (read.RangeOf root range pairs bytes) = RangeOf (seen_root root) range pairs bytes
 seen_line (read.ChangesOf from to range pairs bytes) = ChangesOf (seen_root from) (seen_root to) range pairs bytes
 seen_line (read.VerifyRange root range proof) = VerifyRange root range proof.items
+seen_line (read.VerifyChanges root range proof) = VerifyChanges root range proof.items
 
 -- the kind of a fault, or none for want of memory
 abbrev pub seen_kind : ReadKind → Option LineKind

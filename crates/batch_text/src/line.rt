@@ -1,5 +1,6 @@
 // What a line asks for, read from its bytes.
-ghost use Rattle.std.specs.Prelude.{◌≡◌, ℕ, IfOk, IfErr, Ok};
+ghost use Rattle.std.specs.Prelude.{◌≡◌, ℕ, List, IfOk, IfErr, Ok};
+ghost use Rattle.range_model.specs.Ranges.{Range as RangeOf};
 ghost use Rattle.text_model.specs.ReadLine.{Line as LineOf, one_word as words_of_one, two_words as words_of_two, three_words as words_of_three, four_words as words_of_four, five_words as words_of_five, six_words as words_of_six, put_line, del_line, number_line, place_line, get_line, prove_line, point_line, range_line, changes_line, verify_range_line, commit_words, script_words, verify_words, line_of_words, read_line as line_of};
 ghost use Rattle.std.specs.Option.{ok_or};
 ghost use Rattle.text_model.specs.LineKind.{Bounds};
@@ -29,7 +30,7 @@ pub enum InputKind {
     /// These, `commit`, `view PLACE`, `take NUMBER`, `close NUMBER`, `state NUMBER`, `get PLACE KEY`, `root PLACE`,
     /// `prove ROOT KEY`, `range ROOT START END PAIRS BYTES` and `changes FROM TO START END PAIRS BYTES`.
     Script,
-    /// `point ROOT KEY HEX` and `range ROOT START END HEX`.
+    /// `point ROOT KEY HEX`, `range ROOT START END HEX` and `changes ROOT START END HEX`.
     Verify,
 }
 
@@ -141,6 +142,12 @@ pub enum Line {
     },
     /// Whether bytes prove what every map with this root has in a range.
     VerifyRange {
+        root: Id,
+        range: Range,
+        proof: Vec<u8>,
+    },
+    /// Whether bytes prove how a map of one's own is led to every map with this root in a range.
+    VerifyChanges {
         root: Id,
         range: Range,
         proof: Vec<u8>,
@@ -383,7 +390,12 @@ fn read_verify(alloc: Global, command: &[u8], rest: &[u8]) -> Result<Line, LineK
         return read_point(alloc, rest);
     }
     if command == b"range".as_slice() {
-        return read_verify_range(alloc, rest);
+        let (root, range, proof) = read_range_proof(alloc, rest)?;
+        return Ok(Line::VerifyRange { root, range, proof });
+    }
+    if command == b"changes".as_slice() {
+        let (root, range, proof) = read_range_proof(alloc, rest)?;
+        return Ok(Line::VerifyChanges { root, range, proof });
     }
     Err(LineKind::Word)
 }
@@ -404,9 +416,9 @@ fn read_point(alloc: Global, rest: &[u8]) -> Result<Line, LineKind>
     Ok(Line::Point { root, key, proof })
 }
 
-// What follows `range` in an input of proofs.
-fn read_verify_range(alloc: Global, rest: &[u8]) -> Result<Line, LineKind>
-    ensures { IsRead seen_line result (words_of_four verify_range_line (words_of rest.now)) }
+// What follows `range` or `changes` in an input of proofs.
+fn read_range_proof(alloc: Global, rest: &[u8]) -> Result<(Id, Range, Vec<u8>), LineKind>
+    ensures { (line : List ℕ → RangeOf → List ℕ → LineOf) → IsRead (λ told. line told.0 told.1 told.2.items) result (words_of_four (verify_range_line line) (words_of rest.now)) }
 {
     let Some((root, start, end, proof)) = four_words(rest) else {
         return Err(LineKind::Count);
@@ -416,7 +428,7 @@ fn read_verify_range(alloc: Global, rest: &[u8]) -> Result<Line, LineKind>
     let end = read_bound(end)?;
     let proof = read_hex(alloc, proof)?;
     let range = read_between(alloc, start, end)?;
-    Ok(Line::VerifyRange { root, range, proof })
+    Ok((root, range, proof))
 }
 
 #[cfg(test)]

@@ -13,7 +13,6 @@ use Rattle.mdb_journal.specs.Moves.{AreSynced}
 use Rattle.mdb_core.specs.Stores.{DbState, Keeps}
 use Rattle.mdb_base.specs.declared.faults.LimitKind.{LimitKind as LimitOfCode}
 use Rattle.mdb_base.specs.declared.faults.LimitKind.TheVariants.{Input as InputOfCode, Pairs as PairsOfCode, Batch as BatchOfCode, Answers as AnswersOfCode}
-use Rattle.script_run.specs.Steps.{IsJustOpened}
 use Rattle.script_run.specs.declared.end.SessionEnd.{SessionEnd}
 use Rattle.script_run.specs.declared.end.SessionEnd.TheVariants as script_end
 use Rattle.script_run.specs.Ends.{end_of, limit_of}
@@ -25,9 +24,9 @@ use Rattle.run_model.specs.Store.{IsFound, NeedsStore, OnMap, on_found}
 use Rattle.run_model.specs.Script.{HasSteps, ScriptRuns, Keeps as KeepsSteps, Survives, IsStop, end_of_stop}
 use Rattle.run_model.specs.Apply.{apply_outcome, ApplyRuns}
 use Rattle.run_model.specs.Runs.{SharedRuns, InputLimitHasCause}
-use Rattle.mdb_tool.specs.Opening.{KeepsMaps, IsOpen, FailsBy}
+use Rattle.store_opening.specs.Opening.{IsJustOpened, KeepsMaps, IsOpen, FailsBy}
 use Rattle.run_model.proofs.Telling.{where_told, always, rose_at_last}
-use Rattle.mdb_tool.proofs.Openings.{open_keeps}
+use Rattle.store_opening.proofs.Openings.{open_keeps}
 use Rattle.mdb_tool.proofs.ScriptsSurvive.{no_step, opening_survives, script_survives}
 use Rattle.mdb_tool.proofs.StoreRuns.{StoreRuns, own_of, not_refused, came_to, finished, broke, wanted_memory, cut_off, failed}
 

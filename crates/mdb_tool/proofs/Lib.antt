@@ -1,6 +1,6 @@
 pub mod ReadingOfLines
 pub mod RootEnds
-pub mod Openings
+pub mod FailedReads
 pub mod StoreRuns
 pub mod ReadEnds
 pub mod ScriptsSurvive

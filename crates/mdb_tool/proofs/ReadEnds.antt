@@ -24,10 +24,10 @@ use Rattle.run_model.specs.Reading.{IsAnswer, ReadRuns}
 use Rattle.run_model.specs.Runs.{SharedRuns}
 use Rattle.range_model.specs.Ranges.{Range as Bounds}
 use Rattle.text_model.specs.Words.{RootWord}
-use Rattle.mdb_tool.specs.Opening.{KeepsMaps, IsOpen, FailsBy}
+use Rattle.store_opening.specs.Opening.{KeepsMaps, IsOpen, FailsBy}
 use Rattle.mdb_tool.specs.Finding.{Finds, IsValueAt, IsLineOf, line_outcome}
 use Rattle.run_model.proofs.Telling.{always, whole}
-use Rattle.mdb_tool.proofs.Openings.{open_keeps, open_stands, untouched_stands}
+use Rattle.store_opening.proofs.Openings.{open_keeps, open_stands, untouched_stands}
 use Rattle.mdb_tool.proofs.StoreRuns.{StoreRuns, own_of, not_refused, came_to, cut_off, finished, failed, not_held}
 
 -- all that a run promises that has this outcome on a map

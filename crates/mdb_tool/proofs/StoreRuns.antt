@@ -13,7 +13,7 @@ use Rattle.run_model.specs.Outcome.{Outcome, PrintsNothing, CameTo, IsComplete}
 use Rattle.run_model.specs.Store.{IsFound, NeedsStore, on_found, RefusalHasCause}
 use Rattle.run_model.specs.Command.{Command, names_map, checks_proofs}
 use Rattle.run_model.specs.Runs.{ReadHasCause, WriteHasCause, DiskHasCause, InputLimitHasCause, IsOwnEnd}
-use Rattle.mdb_tool.specs.Opening.{FailsBy}
+use Rattle.store_opening.specs.Opening.{FailsBy}
 use Rattle.run_model.proofs.Telling.{always}
 
 -- the fields of what every run promises, for a command with this outcome on a map and an input, which names a map or doesn't

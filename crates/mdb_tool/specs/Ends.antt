@@ -1,8 +1,6 @@
 -- How a run ends, as the definitions see its status.
 use Rattle.mdb_tool.specs.declared.status.Status.{Status}
 use Rattle.mdb_tool.specs.declared.status.Status.TheVariants.{Done as DoneStatus, BadWords as BadWordsStatus, BadLine as BadLineStatus, NotAStore as NotAStoreStatus, BranchDiffers as BranchDiffersStatus, Damaged as DamagedStatus, VerifyRefused as VerifyRefusedStatus, NotHeld as NotHeldStatus, Limit as LimitStatus, Read as ReadStatus, Write as WriteStatus, Disk as DiskStatus, NoMemory as NoMemoryStatus}
-use Rattle.mdb_core.specs.declared.fault.DbFault.{DbFault}
-use Rattle.mdb_core.specs.declared.fault.DbFault.TheVariants.{Disk as DiskFault, NotAStore as NotAStoreFault, BranchDiffers as BranchDiffersFault, Damaged as DamagedFault, Failed as FailedFault, Unknown as UnknownFault, NotLive as NotLiveFault, NotHeld as NotHeldFault, TooMany as TooManyFault, TooDeep as TooDeepFault, TooHeavy as TooHeavyFault, TooLarge as TooLargeFault, NotParent as NotParentFault, Full as FullFault, NoMemory as NoMemoryFault}
 use Rattle.store_model.specs.Refusals.{NotAStore, BranchDiffers, Damaged}
 use Rattle.run_model.specs.End.{End, Done, BadWords, BadLine, NotOpened, VerifyRefused, NotHeld, Limit, Read, Write, Disk, NoMemory}
 use Rattle.proof_check.specs.Refused.{seen_cause}
@@ -24,24 +22,6 @@ end_of ReadStatus = Read
 end_of WriteStatus = Write
 end_of DiskStatus = Disk
 end_of NoMemoryStatus = NoMemory
-
--- how a run ends where its store is not opened or read; those behind the fifth come from no such call
-abbrev pub end_of_fault : DbFault → End
-end_of_fault DiskFault = Disk
-end_of_fault (NotAStoreFault file) = NotOpened (NotAStore file)
-end_of_fault (BranchDiffersFault kept asked) = NotOpened (BranchDiffers kept asked)
-end_of_fault (DamagedFault file at) = NotOpened (Damaged file at)
-end_of_fault NoMemoryFault = NoMemory
-end_of_fault FailedFault = NoMemory
-end_of_fault UnknownFault = NoMemory
-end_of_fault (NotLiveFault state) = NoMemory
-end_of_fault NotHeldFault = NoMemory
-end_of_fault TooManyFault = NoMemory
-end_of_fault TooDeepFault = NoMemory
-end_of_fault TooHeavyFault = NoMemory
-end_of_fault (TooLargeFault n) = NoMemory
-end_of_fault NotParentFault = NoMemory
-end_of_fault FullFault = NoMemory
 
 -- how a run ends that could not read its store
 abbrev pub end_of_reading : SessionEnd → End

@@ -75,6 +75,11 @@ refusal_hint (NotAStore file) = hints.NoStore
 refusal_hint (BranchDiffers kept asked) = hints.KeptFactor
 refusal_hint (Damaged file at) = hints.Damaged
 
+-- for a disk that failed: where word 1 is `-` there is no store
+abbrev pub disk_hint : List (List ℕ) → Hint
+disk_hint [] = hints.Folder
+disk_hint (folder ∷ words) = if bytes_eq folder (codes "-") then hints.StoreFolder else hints.Folder
+
 -- for the end of a run of these words
 abbrev pub end_hint : List (List ℕ) → End → Hint
 end_hint given Done = hints.Nothing
@@ -86,7 +91,7 @@ end_hint given NotHeld = hints.HeldMaps
 end_hint given (Limit kind) = hints.Limits
 end_hint given Read = hints.Input
 end_hint given Write = hints.Output
-end_hint given Disk = hints.Folder
+end_hint given Disk = disk_hint given
 end_hint given NoMemory = hints.Nothing
 
 -- where the words could not be read
@@ -117,7 +122,7 @@ hint_text (hints.Expected argument) = argument_text argument
 hint_text hints.NoMore = codes "no argument follows here; mdb --help lists those of each command"
 hint_text hints.MapLines = codes "a line is put KEY VALUE, del KEY or # a comment; docs/guide.md has The lines of root"
 hint_text hints.ScriptLines = codes "mdb --help lists the lines of apply; docs/guide.md has The lines of a script"
-hint_text hints.VerifyLines = codes "a line is point ROOT KEY PROOF, range ROOT START END PROOF or # a comment; docs/guide.md has The lines of verify"
+hint_text hints.VerifyLines = codes "a line is point ROOT KEY PROOF, range ROOT START END PROOF, changes ROOT START END PROOF or # a comment; docs/guide.md has The lines of verify"
 hint_text hints.NoStore = codes "the files mdb0 and mdb1 of FOLDER are those of a store, and of no other program or version"
 hint_text hints.KeptFactor = codes "a store keeps the factor that it was made with"
 hint_text hints.Damaged = codes "no command mends a file; docs/guide.md has A store"

@@ -3,7 +3,6 @@ pub mod Ends
 pub mod MapLines
 pub mod Asked
 pub mod Folder
-pub mod Opening
 pub mod Finding
 pub mod Hints
 pub mod Process

@@ -9,14 +9,15 @@ ghost use Rattle.run_model.specs.Runs.{SharedRuns};
 ghost use Rattle.script_run.specs.Ends.{end_of as end_of_script};
 ghost use Rattle.mdb_tool.specs.Ends.{end_of};
 
-use crate::opening::open_store;
 use crate::status::Status;
+use crate::store_faults::status_of_fault;
 use bit_keys::Branch;
 use disk_world::Disk;
 use mdb_base::{Sink, Source};
 use mdb_core::Db;
 use script_run::{SessionEnd, session};
 use std::alloc::Global;
+use store_opening::open_store;
 
 // The status with which a run ends whose script ends so.
 fn status_of_end(end: SessionEnd) -> Status
@@ -63,7 +64,7 @@ pub(crate) fn run_apply<S: Source, K: Sink, D: Disk>(
 {
     let mut db = match open_store(alloc, branch, disk) {
         Ok(db) => db,
-        Err(status) => return status,
+        Err(fault) => return status_of_fault(fault),
     };
     let end = session(alloc, &mut db, input, out, disk);
     close_store(db, disk, status_of_end(end))

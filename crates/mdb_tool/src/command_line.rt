@@ -1,5 +1,5 @@
 // The words that the system gives.
-ghost use Rattle.std.specs.Prelude.{◌≡◌, ◌⊎◌, Ok, IfOk, IfErr, Err, drop, map, string_bytes};
+ghost use Rattle.std.specs.Prelude.{◌≡◌, ◌⊎◌, Ok, IfOk, IfErr, Err, IsNone, drop, map, option_map, string_bytes};
 ghost use Rattle.mdb_tool.specs.Folder.{folder_of};
 ghost use Rattle.std.specs.IoError.{error_kind};
 ghost use Rattle.std.specs.Vec.Iter.{into_iter_items};
@@ -49,27 +49,28 @@ fn words_of(alloc: Global, args: Args) -> Result<Vec<String>, NoMemory>
     Ok(args.skip(1).collect(alloc)?)
 }
 
-/// The folder that the words name, word 1, beside the words. Where there is no word, or the words have a
-/// status in their place, the folder is empty, and no run asks for it.
+/// The folder that the words name, word 1, beside the words. There is none where word 1 is `-`, where there
+/// is no word, and where the words have a status in their place.
 pub(crate) fn with_folder(
     alloc: Global,
     words: Result<Vec<String>, Status>,
-) -> (String, Result<Vec<String>, Status>)
+) -> (Option<String>, Result<Vec<String>, Status>)
     ensures words { IfOk result.1 (λ given. words ≡ Ok given) }
-    ensures folder { IfOk result.1 (λ given. string_bytes result.0 ≡ folder_of (map string_bytes given.items)) }
+    ensures folder { IfOk result.1 (λ given. option_map string_bytes result.0 ≡ folder_of (map string_bytes given.items)) }
     ensures refused { IfErr result.1 (λ status. (words ≡ Err status) ⊎ (status ≡ Status.NoMemory)) }
+    ensures no_folder { IfErr result.1 (λ _. IsNone result.0) }
 {
-    let empty = String::new(alloc);
     let given = match words {
         Ok(given) => given,
-        Err(status) => return (empty, Err(status)),
+        Err(status) => return (None, Err(status)),
     };
-    let Some(word) = given.first() else {
-        return (empty, Ok(given));
+    let word = match given.first() {
+        Some(word) if word.as_str() != "-" => word,
+        _ => return (None, Ok(given)),
     };
     match String::from_str(alloc, word.as_str()) {
-        Ok(folder) => (folder, Ok(given)),
-        Err(_) => (empty, Err(Status::NoMemory)),
+        Ok(folder) => (Some(folder), Ok(given)),
+        Err(_) => (None, Err(Status::NoMemory)),
     }
 }
 

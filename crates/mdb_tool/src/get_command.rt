@@ -6,17 +6,18 @@ ghost use Rattle.run_model.specs.Command.{Get};
 ghost use Rattle.run_model.specs.Get.{GetRuns};
 ghost use Rattle.run_model.specs.Runs.{SharedRuns};
 ghost use Rattle.mdb_tool.specs.Ends.{end_of};
-ghost use Rattle.mdb_tool.specs.Opening.{KeepsMaps, FailsBy};
+ghost use Rattle.store_opening.specs.Opening.{KeepsMaps, FailsBy};
 ghost use Rattle.mdb_tool.specs.Finding.{Finds, IsValueAt};
 
-use crate::opening::{open_store, status_of_fault};
 use crate::status::Status;
+use crate::store_faults::status_of_fault;
 use bit_keys::Branch;
 use disk_world::Disk;
 use mdb_base::{Sink, write_all};
 use mdb_core::At;
 use script_run::value_line;
 use std::alloc::Global;
+use store_opening::open_store;
 
 // The value of a key in the store of a disk.
 fn look_up<D: Disk>(
@@ -32,7 +33,7 @@ fn look_up<D: Disk>(
 {
     let mut db = match open_store(alloc, branch, disk) {
         Ok(db) => db,
-        Err(status) => return Err(status),
+        Err(fault) => return Err(status_of_fault(fault)),
     };
     let value = match db.get(alloc, disk, At::Store, key) {
         Ok(value) => value,

@@ -49,9 +49,11 @@ commands:
                    the last pair that it lists: range PROOF
   changes FACTOR FROM TO START END PAIRS BYTES
                    prints the proof of what changed in that range from the one map to the other: changes PROOF
-  verify FACTOR    checks the proofs of standard input, each against the root that stands in its line;
-                   it needs no store, and prints ok and how many pairs a proof shows
-                   lines: point ROOT KEY PROOF    range ROOT START END PROOF    # a comment
+  verify FACTOR    checks the proofs of standard input, each against the root that stands in its line,
+                   and prints ok and how many pairs or changes a proof shows; it opens the store for
+                   changes alone, which are checked against the map there, and leaves that as it is
+                   lines: point ROOT KEY PROOF             range ROOT START END PROOF
+                          changes ROOT START END PROOF     # a comment
                    ROOT is 64 digits here, or empty; at a proof that is refused it ends
 
 The fields of a line are parted by spaces and tabs. Where standard input is a terminal, Ctrl-D at

@@ -2,7 +2,7 @@
 ghost use Rattle.std.specs.Prelude.{◌≡◌, ◌∷◌, [], ◌++◌, IfOk, map, string_bytes};
 ghost use Rattle.mdb_tool.specs.Ends.{end_of};
 ghost use Rattle.mdb_tool.specs.ReadJob.{seen_command};
-ghost use Rattle.mdb_tool.specs.Hints.{argument_text, hint_text, hint_lines, is_command as is_command_of, own_arguments as own_arguments_of, own_hint as own_hint_of, argument_hint as argument_hint_of, line_hint as line_hint_of, command_line_hint as command_line_hint_of, end_hint as end_hint_of, unread_hint as unread_hint_of, is_shown as is_shown_of, shown_folder as shown_folder_of, folder_text, command_reads, reads_lines as reads_lines_of};
+ghost use Rattle.mdb_tool.specs.Hints.{argument_text, hint_text, hint_lines, is_command as is_command_of, own_arguments as own_arguments_of, own_hint as own_hint_of, argument_hint as argument_hint_of, line_hint as line_hint_of, command_line_hint as command_line_hint_of, disk_hint as disk_hint_of, end_hint as end_hint_of, unread_hint as unread_hint_of, is_shown as is_shown_of, shown_folder as shown_folder_of, folder_text, command_reads, reads_lines as reads_lines_of};
 
 use crate::job::{Command, read_words};
 use crate::status::Status;
@@ -115,7 +115,7 @@ fn text_of_hint(hint: Hint) -> &'static str
         Hint::ScriptLines =>
             "mdb --help lists the lines of apply; docs/guide.md has The lines of a script",
         Hint::VerifyLines =>
-            "a line is point ROOT KEY PROOF, range ROOT START END PROOF or # a comment; docs/guide.md has The lines of verify",
+            "a line is point ROOT KEY PROOF, range ROOT START END PROOF, changes ROOT START END PROOF or # a comment; docs/guide.md has The lines of verify",
         Hint::NoStore =>
             "the files mdb0 and mdb1 of FOLDER are those of a store, and of no other program or version",
         Hint::KeptFactor => "a store keeps the factor that it was made with",
@@ -224,6 +224,16 @@ fn line_hint(words: &[String]) -> Hint
     }
 }
 
+// The hint for a disk that failed.
+fn disk_hint(words: &[String]) -> Hint
+    ensures { result ≡ disk_hint_of (map string_bytes words.now) }
+{
+    match words.first() {
+        Some(folder) if folder.as_str() == "-" => Hint::StoreFolder,
+        _ => Hint::Folder,
+    }
+}
+
 /// The hint for how a run of these words ends.
 pub(crate) fn end_hint(words: &[String], status: &Status) -> Hint
     ensures { result ≡ end_hint_of (map string_bytes words.now) (end_of status.now) }
@@ -240,7 +250,7 @@ pub(crate) fn end_hint(words: &[String], status: &Status) -> Hint
         Status::Limit(_) => Hint::Limits,
         Status::Read => Hint::Input,
         Status::Write => Hint::Output,
-        Status::Disk => Hint::Folder,
+        Status::Disk => disk_hint(words),
     }
 }
 

@@ -14,13 +14,13 @@ mod help;
 mod hints;
 mod job;
 mod map_lines;
-mod opening;
 mod process;
 pub mod program;
 mod prove_command;
 mod range_command;
 mod root_command;
 pub mod status;
+mod store_faults;
 #[cfg(test)]
 mod tests;
 mod verify_command;

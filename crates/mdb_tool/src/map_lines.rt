@@ -62,7 +62,8 @@ fn lay_line(digests: &mut Digests, line: Line) -> Result<(), NoMemory>
         | Line::Point { .. }
         | Line::RangeOf { .. }
         | Line::ChangesOf { .. }
-        | Line::VerifyRange { .. } => Ok(()),
+        | Line::VerifyRange { .. }
+        | Line::VerifyChanges { .. } => Ok(()),
         Line::Put { key, value } => digests.put(key, value_digest(&value)),
         Line::Del { key } => {
             digests.remove(&key);

@@ -131,6 +131,6 @@ fn run_job<S: Source, K: Sink, D: Disk>(
             };
             run_changes(alloc, branch, &asked, out, disk)
         }
-        Command::Verify => run_verify(alloc, branch, input, out),
+        Command::Verify => run_verify(alloc, branch, input, out, disk),
     }
 }

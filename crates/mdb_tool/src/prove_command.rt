@@ -8,16 +8,17 @@ ghost use Rattle.run_model.specs.Prove.{ProveRuns, prove_outcome};
 ghost use Rattle.run_model.specs.Runs.{SharedRuns};
 ghost use Rattle.mdb_tool.specs.Ends.{end_of};
 ghost use Rattle.mdb_tool.specs.Finding.{Finds, IsLineOf};
-ghost use Rattle.mdb_tool.specs.Opening.{KeepsMaps, FailsBy};
+ghost use Rattle.store_opening.specs.Opening.{KeepsMaps, FailsBy};
 
-use crate::opening::{open_store, status_of_fault, status_of_reading};
 use crate::status::Status;
+use crate::store_faults::{status_of_fault, status_of_reading};
 use batch_text::RootWord;
 use bit_keys::Branch;
 use disk_world::Disk;
 use mdb_base::{Sink, write_all};
 use script_run::proof_line;
 use std::alloc::Global;
+use store_opening::open_store;
 
 // The line of the proof of a key in the store of a disk; None where the store has no map that the root names.
 fn look_up<D: Disk>(
@@ -34,7 +35,7 @@ fn look_up<D: Disk>(
 {
     let mut db = match open_store(alloc, branch, disk) {
         Ok(db) => db,
-        Err(status) => return Err(status),
+        Err(fault) => return Err(status_of_fault(fault)),
     };
     let line = match proof_line(alloc, &mut db, root, key, disk) {
         Ok(line) => line,

@@ -1,7 +1,7 @@
 // The command `verify`: whether the proofs of an input are accepted.
 ghost use Rattle.std.specs.Prelude.{◌≡◌};
 ghost use Rattle.bit_keys.specs.Branch.{width_of};
-ghost use Rattle.run_model.specs.Outside.{DiskSeen, outside};
+ghost use Rattle.run_model.specs.Outside.{outside, disk_seen};
 ghost use Rattle.run_model.specs.Command.{Verify};
 ghost use Rattle.run_model.specs.Verify.{VerifyRuns};
 ghost use Rattle.run_model.specs.Runs.{SharedRuns};
@@ -9,7 +9,9 @@ ghost use Rattle.verify_run.specs.Ends.{end_of as end_of_lines};
 ghost use Rattle.mdb_tool.specs.Ends.{end_of};
 
 use crate::status::Status;
+use crate::store_faults::status_of_fault;
 use bit_keys::Branch;
+use disk_world::Disk;
 use mdb_base::{LimitKind, Sink, Source};
 use std::alloc::Global;
 use verify_run::{VerifyEnd, verify};
@@ -22,6 +24,7 @@ fn status_of(end: VerifyEnd) -> Status
         VerifyEnd::Done => Status::Done,
         VerifyEnd::BadLine(number) => Status::BadLine(number),
         VerifyEnd::Refused { line, cause } => Status::VerifyRefused { line, cause },
+        VerifyEnd::Store(fault) => status_of_fault(fault),
         VerifyEnd::Limit => Status::Limit(LimitKind::Input),
         VerifyEnd::Read => Status::Read,
         VerifyEnd::Write => Status::Write,
@@ -29,20 +32,21 @@ fn status_of(end: VerifyEnd) -> Status
     }
 }
 
-/// Checks the proofs of an input, and prints how many pairs each shows. It is handed no disk: its clauses
-/// hold of each one, which is as it was.
-pub(crate) fn run_verify<S: Source, K: Sink>(
+/// Checks the proofs of an input, and prints how many pairs or changes each shows. Changes are checked against the
+/// map of the disk's store, too, which is opened where lines come to some.
+pub(crate) fn run_verify<S: Source, K: Sink, D: Disk>(
     alloc: Global,
     branch: Branch,
     input: &mut S,
     out: &mut K,
+    disk: &mut D,
 ) -> Status
-    ensures shared { (disk : DiskSeen) → let before = outside (S.left input.old) (S.faults input.old) (K.taken out.old) (K.faults out.old) disk in
-        let after = outside (S.left input.new) (S.faults input.new) (K.taken out.new) (K.faults out.new) disk in
+    ensures shared { let before = outside (S.left input.old) (S.faults input.old) (K.taken out.old) (K.faults out.old) (disk_seen D.words disk.old) in
+        let after = outside (S.left input.new) (S.faults input.new) (K.taken out.new) (K.faults out.new) (disk_seen D.words disk.new) in
         SharedRuns Verify (width_of branch) before after (end_of result) }
-    ensures verify { (disk : DiskSeen) → let before = outside (S.left input.old) (S.faults input.old) (K.taken out.old) (K.faults out.old) disk in
-        let after = outside (S.left input.new) (S.faults input.new) (K.taken out.new) (K.faults out.new) disk in
+    ensures verify { let before = outside (S.left input.old) (S.faults input.old) (K.taken out.old) (K.faults out.old) (disk_seen D.words disk.old) in
+        let after = outside (S.left input.new) (S.faults input.new) (K.taken out.new) (K.faults out.new) (disk_seen D.words disk.new) in
         VerifyRuns (width_of branch) before after (end_of result) }
 {
-    status_of(verify(alloc, branch, input, out))
+    status_of(verify(alloc, branch, input, out, disk))
 }

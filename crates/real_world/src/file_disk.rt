@@ -1,5 +1,5 @@
 // Five files of a folder, as a disk that tells nothing.
-ghost use Rattle.std.specs.Prelude.{◌≡◌, ◌≤◌, ◌+◌, length, Ok, OnOk, IfOk};
+ghost use Rattle.std.specs.Prelude.{◌≡◌, ◌≤◌, ◌+◌, length, Ok, OnOk, IfOk, IsErr, IsNone};
 ghost use Rattle.base_model.specs.Faults.{HasCause, CountsFaults};
 ghost use Rattle.disk_model.specs.Files.{file_limit};
 
@@ -12,11 +12,12 @@ use std::rt::Files;
 /// How many bytes a file has at most.
 const FILE_LIMIT: u64 = (1 << 63) - 1;
 
-/// The files `mdb0` to `mdb4` of a folder. Each is opened, or made, at the first call on it.
+/// The files `mdb0` to `mdb4` of a folder. Each is opened, or made, at the first call on it. Without a folder
+/// there are no files, and each call on one fails.
 #[derive(Drop)]
 pub struct FileDisk<'a, R: Files<File = File> + AllocGlobal> {
     rt: &'a R,
-    folder: String,
+    folder: Option<String>,
     files: [Option<File>; 5],
     /// Whether the folder was synced after the file of that number was opened. A new file is lost
     /// in a crash where its name is.
@@ -25,7 +26,8 @@ pub struct FileDisk<'a, R: Files<File = File> + AllocGlobal> {
 }
 
 impl<'a, R: Files<File = File> + AllocGlobal> FileDisk<'a, R> {
-    pub fn new(rt: &'a R, folder: String) -> Self
+    /// The files of this folder, or none at all.
+    pub fn new(rt: &'a R, folder: Option<String>) -> Self
         ensures { result.faults ≡ 0 }
     {
         FileDisk {
@@ -59,15 +61,27 @@ impl<'a, R: Files<File = File> + AllocGlobal> FileDisk<'a, R> {
         }
     }
 
-    // Opens a file or makes it, unless that was done.
+    // The folder, where there is one.
+    fn folder(&self) -> io::Result<&str>
+        ensures { IsNone self.now.folder → IsErr result }
+    {
+        match &self.folder {
+            Some(folder) => Ok(folder.as_str()),
+            None => Err(io::Error::from(io::ErrorKind::NotADirectory)),
+        }
+    }
+
+    // Opens a file or makes it, unless that was done. Every call on a file begins with this.
     fn open(&mut self, file: u8) -> io::Result<()>
         requires { file ≤ 4 }
-        ensures { self.new.faults ≡ self.old.faults }
+        ensures folder { IsNone self.old.folder → IsErr result }
+        ensures faults { self.new.faults ≡ self.old.faults }
     {
-        if self.files[file as usize].is_some() {
+        let is_open = self.files[file as usize].is_some();
+        let folder = self.folder()?;
+        if is_open {
             return Ok(());
         }
-        let folder = self.folder.as_str();
         let path = format!(in self.rt.alloc(); "{folder}/mdb{file}")?;
         let opened = OpenOptions::new()
             .read(true)
@@ -152,7 +166,7 @@ impl<'a, R: Files<File = File> + AllocGlobal> FileDisk<'a, R> {
         self.open(file)?;
         self.opened(file)?.sync_all()?;
         if !self.named[file as usize] {
-            let folder = self.folder.as_str();
+            let folder = self.folder()?;
             let path = format!(in self.rt.alloc(); "{folder}/")?;
             File::open(self.rt, path.as_str())?.sync_all()?;
             self.named[file as usize] = true;

@@ -50,7 +50,7 @@ fn reads<D: Disk>(disk: &mut D, bytes: &[u8]) -> bool {
 #[test]
 fn what_was_written_and_synced_is_read_by_another_disk(rt: HostRuntime) -> Result<(), Fail> {
     let folder = new_folder(&rt)?;
-    let mut disk = FileDisk::new(&rt, folder.clone()?);
+    let mut disk = FileDisk::new(&rt, Some(folder.clone()?));
     let far = (1 << 63) - 1;
     let rows: [(Ask, bool, &[u8]); 11] = [
         (Ask::Read(0, 0), true, &[]),
@@ -70,7 +70,7 @@ fn what_was_written_and_synced_is_read_by_another_disk(rt: HostRuntime) -> Resul
         assert!(rt; reads(&mut disk, bytes), "after call {turn}");
     }
     assert_eq!(rt; disk.faults(), 4);
-    let mut other = FileDisk::new(&rt, folder.clone()?);
+    let mut other = FileDisk::new(&rt, Some(folder.clone()?));
     assert!(rt; reads(&mut other, &[0, 9, 0, 0, 0, 7]));
     let name = folder.as_str();
     let path = format!(in rt.alloc(); "{name}/mdb3")?;
@@ -101,7 +101,7 @@ fn what_the_system_refuses_fails_and_is_counted(rt: HostRuntime) -> Result<(), F
     fs::write(&rt, file.as_str(), b"x")?;
     let missing = format!(in rt.alloc(); "{name}/none")?;
     for refused in [missing, file, String::from_str(rt.alloc(), "/proc")?] {
-        let mut disk = FileDisk::new(&rt, refused);
+        let mut disk = FileDisk::new(&rt, Some(refused));
         fails_each_call(&rt, &mut disk);
         assert_eq!(rt; disk.faults(), 5);
     }
@@ -110,7 +110,7 @@ fn what_the_system_refuses_fails_and_is_counted(rt: HostRuntime) -> Result<(), F
         let link = format!(in rt.alloc(); "{name}/mdb{number}")?;
         symlink(&rt, device, link.as_str())?;
     }
-    let mut disk = FileDisk::new(&rt, folder.clone()?);
+    let mut disk = FileDisk::new(&rt, Some(folder.clone()?));
     assert_eq!(rt;
         (disk.write_at(0, 0, b"x"), disk.faults()),
         (Err(Failed), 1)
@@ -118,6 +118,15 @@ fn what_the_system_refuses_fails_and_is_counted(rt: HostRuntime) -> Result<(), F
     assert_eq!(rt; (disk.sync(1), disk.faults()), (Err(Failed), 2));
     assert_eq!(rt; (disk.len(4), disk.faults()), (Ok(1), 2));
     fs::remove_dir_all(&rt, name)?;
+    Ok(())
+}
+
+// Without a folder the system is not asked, so there is no cause of a failure but that.
+#[test]
+fn without_a_folder_each_call_fails_and_is_counted(rt: HostRuntime) -> Result<(), Fail> {
+    let mut disk = FileDisk::new(&rt, None);
+    fails_each_call(&rt, &mut disk);
+    assert_eq!(rt; disk.faults(), 5);
     Ok(())
 }
 

@@ -24,7 +24,7 @@ pub data Command : Type 0 where
   -- whether the proofs of the input are accepted
   Verify : Command
 
--- whether a command uses a store, which lies in the folder
+-- whether a command may use a store, which lies in the folder: `verify` does where a line tells of changes
 abbrev pub uses_store : Command → Bool
 uses_store Root = false
 uses_store Apply = true
@@ -32,7 +32,7 @@ uses_store (Get key) = true
 uses_store (Prove root key) = true
 uses_store (Range root asked pairs bytes) = true
 uses_store (Changes from to asked pairs bytes) = true
-uses_store Verify = false
+uses_store Verify = true
 
 -- whether a command names a map, which the store may not have
 abbrev pub names_map : Command → Bool

@@ -1,16 +1,18 @@
 -- Laws of what the first bytes of an input decide, of what the lines of `verify` tell, and of what words ask for.
-use Rattle.std.specs.Prelude.{◌≡◌, ℕ, List, ◌++◌, Some, None, Ok}
+use Rattle.std.specs.Prelude.{◌≡◌, ℕ, List, ◌++◌, Some, None, Result, Ok}
 use Rattle.std.specs.List.{AllByRecursion}
 use Rattle.trie_model.specs.Bits.{IsWidth}
+use Rattle.trie_model.specs.Maps.{Map}
 use Rattle.range_model.specs.Ranges.{Range as Bounds}
 use Rattle.text_model.specs.Laws.{IsAskedRange}
 use Rattle.text_model.specs.Lines.{AreWholeLines}
 use Rattle.text_model.specs.Words.{RootWord}
+use Rattle.store_model.specs.Refusals.{Refusal}
 use Rattle.run_model.specs.Command.{Range, Changes, job_of}
 use Rattle.run_model.specs.End.{End, Done}
 use Rattle.run_model.specs.Outcome.{Outcome}
 use Rattle.run_model.specs.Root.{root_outcome, root_decided}
-use Rattle.run_model.specs.Verify.{verify_outcome, verify_decided, passed, IsTrueLine}
+use Rattle.run_model.specs.Verify.{verify_outcome, verify_decided, passed, come_to_store, IsTrueLine}
 
 -- what is decided of `root` is the outcome, whatever bytes follow
 abbrev pub DecidedStays : Type 0
@@ -22,15 +24,21 @@ UndecidedRootFinishes = (w : ℕ) (front : List ℕ) → root_decided front ≡ 
 
 -- what is decided of `verify` is how it ends, whatever bytes follow
 abbrev pub DecidedVerifyStays : Type 0
-DecidedVerifyStays = (w : ℕ) (front rest : List ℕ) (end : End) → verify_decided w front ≡ Some end → (verify_outcome w (front ++ rest)).end ≡ end
+DecidedVerifyStays =
+    (w : ℕ) (found : Result Map Refusal) (front rest : List ℕ) (end : End) → verify_decided w found front ≡ Some end → (verify_outcome w found (front ++ rest)).end ≡ end
 
 -- where whole lines decide nothing of `verify`, an input that ends behind them is one of finished work
 abbrev pub UndecidedVerifyFinishes : Type 0
-UndecidedVerifyFinishes = (w : ℕ) (front : List ℕ) → verify_decided w front ≡ None → AreWholeLines front → (verify_outcome w front).end ≡ Done
+UndecidedVerifyFinishes =
+    (w : ℕ) (found : Result Map Refusal) (front : List ℕ) → verify_decided w found front ≡ None → AreWholeLines front → (verify_outcome w found front).end ≡ Done
 
 -- lines that pass are true, each of them
 abbrev pub PassedLinesAreTrue : Type 0
-PassedLinesAreTrue = (w : ℕ) (lines : List (List ℕ)) → IsWidth w → AllByRecursion (IsTrueLine w) (passed w lines)
+PassedLinesAreTrue = (w : ℕ) (found : Result Map Refusal) (lines : List (List ℕ)) → IsWidth w → AllByRecursion (IsTrueLine w found) (passed w found lines)
+
+-- whether lines ask for the store does not hang on what it is found to be
+abbrev pub StoreIsAskedAlike : Type 0
+StoreIsAskedAlike = (w : ℕ) (a b : Result Map Refusal) (lines : List (List ℕ)) → come_to_store w a lines ≡ come_to_store w b lines
 
 -- what words ask for of a range, or of changes in one, is within the limits
 abbrev pub RangeWordsAreWithin : Type 0

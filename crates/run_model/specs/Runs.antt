@@ -20,7 +20,7 @@ use Rattle.run_model.specs.Get.{get_outcome, GetRuns}
 use Rattle.run_model.specs.Prove.{prove_outcome, ProveRuns}
 use Rattle.run_model.specs.Range.{range_outcome, RangeRuns}
 use Rattle.run_model.specs.Changes.{changes_outcome, ChangesRuns}
-use Rattle.run_model.specs.Verify.{verify_outcome, VerifyRuns}
+use Rattle.run_model.specs.Verify.{verify_outcome, NeedsStoreIfAsked, VerifyRuns}
 
 -- ---- by command
 -- what a command comes to on this input, where the files of its store are found to be this
@@ -31,7 +31,7 @@ command_outcome (Get key) w found bytes = on_found (get_outcome key) found
 command_outcome (Prove root key) w found bytes = on_found (prove_outcome w root key) found
 command_outcome (Range root asked pairs bytes) w found given = on_found (range_outcome w root asked pairs bytes) found
 command_outcome (Changes from to asked pairs bytes) w found given = on_found (changes_outcome w from to asked pairs bytes) found
-command_outcome Verify w found bytes = verify_outcome w bytes
+command_outcome Verify w found bytes = verify_outcome w found bytes
 
 -- what a command needs of the disk to come to that
 abbrev pub CommandNeeds : Command → ℕ → Outside → Outside → Result Map Refusal → Type 0
@@ -41,7 +41,7 @@ CommandNeeds (Get key) w before after found = NeedsStore w before after found
 CommandNeeds (Prove root key) w before after found = NeedsStore w before after found
 CommandNeeds (Range root asked pairs bytes) w before after found = NeedsStore w before after found
 CommandNeeds (Changes from to asked pairs bytes) w before after found = NeedsStore w before after found
-CommandNeeds Verify w before after found = Unit {0}
+CommandNeeds Verify w before after found = NeedsStoreIfAsked w before after found
 
 -- a wrong word is the outcome whatever the input and the files are
 abbrev pub job_outcome : Result Job ℕ → Result Map Refusal → List ℕ → Outcome

@@ -1,15 +1,15 @@
 -- Worked runs: words and an input, and what they come to, with SHA-256 left as a symbol.
 -- Bytes are in hexadecimal: 0a ends a line, 0d may stand before it, 09 is a tab.
-use Rattle.std.specs.Prelude.{◌≡◌, ℕ, List, [], ◌∷◌, ◌++◌, codes, replicate, Result, Ok}
+use Rattle.std.specs.Prelude.{◌≡◌, ℕ, List, [], ◌∷◌, ◌++◌, codes, replicate, Result, Ok, Err}
 use Rattle.std.specs.FinMap as map_of
 use Rattle.sha2.specs.Sha256.{sha256}
 use Rattle.hex.specs.Hex.{encode_lower}
 use Rattle.trie_model.specs.Maps.{Map}
 use Rattle.store_model.specs.Refusals.{Refusal}
 use Rattle.proof_model.specs.Checked.{NotRead, NotAccepted}
-use Rattle.proof_model.specs.Refusals.{Unsorted}
-use Rattle.proof_model.specs.Wire.{Flag}
-use Rattle.run_model.specs.End.{Done, BadWords, BadLine, VerifyRefused, NotHeld}
+use Rattle.proof_model.specs.Refusals.{Unsorted, Idle}
+use Rattle.proof_model.specs.Wire.{Flag, Kind}
+use Rattle.run_model.specs.End.{Done, BadWords, BadLine, NotOpened, VerifyRefused, NotHeld}
 use Rattle.run_model.specs.Outcome.{Outcome, silent}
 use Rattle.run_model.specs.Runs.{outcome}
 
@@ -162,6 +162,21 @@ VerifyRangeRuns =
     × (verify_16 (codes "range empty * * 010100000000\nrange empty 0b 0a 010100000000\n") ≡ record { end = BadLine 2; text = codes "ok 0\n" })
     × (verify_16 (codes "range empty * * 01010002010b0162010a01610000\n") ≡ silent (VerifyRefused 1 (NotAccepted (Unsorted 1))))
     × (verify_16 (codes "range empty * * 010102\n") ≡ silent (VerifyRefused 1 (NotRead (record { at = 2; kind = Flag }))))
+
+-- `mdb D verify 16` on an input, where the files of D are found to be this
+abbrev pub verify_in : Result Map Refusal → List ℕ → Outcome
+verify_in found bytes = outcome (codes "D" ∷ codes "verify" ∷ codes "16" ∷ []) found bytes
+
+-- so of change proofs, in a store of the empty map: that nothing changes leads to the empty map. A deletion of a key that is
+-- not there is refused. A store that is not opened ends the run at the first line that asks for it, and no line before it
+abbrev pub VerifyChangesRuns : Type 0
+VerifyChangesRuns =
+    (verify_in (Ok map_of.empty) (codes "changes empty * * 010200000000\nchanges empty - ff 010200000000\n") ≡ prints (codes "ok 0\nok 0\n"))
+    × (verify_in (Ok map_of.empty) (codes "changes empty * * 010200000000\nchanges empty * * 01020001010b000000\n") ≡ record { end = VerifyRefused 2 (NotAccepted (Idle 0)); text = codes "ok 0\n" })
+    × (verify_in (Ok map_of.empty) (codes "changes empty * * 010100000000\n") ≡ silent (VerifyRefused 1 (NotRead (record { at = 1; kind = Kind }))))
+    × (verify_in (Ok map_of.empty) (codes "changes empty 0b 0a 010200000000\n") ≡ silent (BadLine 1))
+    × ((why : Refusal) → verify_in (Err why) (codes "point empty 6b 01040000\nchanges empty * * 010200000000\npoint empty 6b 01040000\n") ≡ record { end = NotOpened why; text = codes "ok 0\n" })
+    × ((why : Refusal) → verify_in (Err why) (codes "point empty 6b 010402\nchanges empty * * 010200000000\n") ≡ silent (VerifyRefused 1 (NotRead (record { at = 2; kind = Flag }))))
 
 -- the proof of all keys of a map, of one pair and one byte at most, on a store of the empty map: this is held under its names, and nothing else is
 abbrev pub RangeRuns : Type 0

@@ -6,12 +6,12 @@
 //! worked values. Nothing here fails, and nothing here takes memory.
 #![tactic(auto)]
 
-ghost use Rattle.run_model.specs.Laws.{DecidedStays, UndecidedRootFinishes, DecidedVerifyStays, UndecidedVerifyFinishes, PassedLinesAreTrue, RangeWordsAreWithin};
-ghost use Rattle.run_model.specs.Worked.{OnePairRuns, EmptyRuns, WrongWordRuns, WrongLineRuns, KeyLimitRuns, VerifyRuns, VerifyRangeRuns, RangeRuns};
+ghost use Rattle.run_model.specs.Laws.{DecidedStays, UndecidedRootFinishes, DecidedVerifyStays, UndecidedVerifyFinishes, PassedLinesAreTrue, StoreIsAskedAlike, RangeWordsAreWithin};
+ghost use Rattle.run_model.specs.Worked.{OnePairRuns, EmptyRuns, WrongWordRuns, WrongLineRuns, KeyLimitRuns, VerifyRuns, VerifyRangeRuns, VerifyChangesRuns, RangeRuns};
 
 use proof_model::{
-    accepted_points_are_true, accepted_ranges_are_true, read_points_are_spelled,
-    read_ranges_are_spelled,
+    accepted_changes_are_true, accepted_points_are_true, accepted_ranges_are_true,
+    read_changes_are_spelled, read_points_are_spelled, read_ranges_are_spelled,
 };
 
 /// What the first bytes of an input decide of `root`, the whole input does not change.
@@ -42,7 +42,14 @@ pub fn passed_lines_are_true()
     read_points_are_spelled();
     accepted_ranges_are_true();
     read_ranges_are_spelled();
+    accepted_changes_are_true();
+    read_changes_are_spelled();
 }
+
+/// Whether lines of `verify` ask for the store does not hang on what that is found to be.
+pub fn store_is_asked_alike()
+    ensures { StoreIsAskedAlike }
+{}
 
 /// What words ask for of a range is within the limits.
 pub fn range_words_are_within()
@@ -82,6 +89,11 @@ pub fn verify_runs()
 /// Lines of range proofs, and the first one that does not pass.
 pub fn verify_range_runs()
     ensures { VerifyRangeRuns }
+{}
+
+/// Lines of change proofs, the first one that does not pass, and a store that is not opened.
+pub fn verify_changes_runs()
+    ensures { VerifyChangesRuns }
 {}
 
 /// Range proofs of the empty map, in a store that has it.

@@ -28,7 +28,8 @@ use Rattle.mdb_core.specs.declared.fault.DbFault.TheVariants.{Disk as DiskFault,
 use Rattle.script_run.specs.declared.end.SessionEnd.{SessionEnd}
 use Rattle.script_run.specs.Ends.{end_of, fault_end, cause_told, IsTextOf, StepCause}
 use Rattle.session_model.specs.Named.{holds_next}
-use Rattle.script_run.specs.Steps.{holding_of, IsAt, IsMade, IsQuiet, RunsUnprinted, KeptUnprinted, KeptPrinting, played, session_of}
+use Rattle.store_opening.specs.Opening.{holding_of}
+use Rattle.script_run.specs.Steps.{IsAt, IsMade, IsQuiet, RunsUnprinted, KeptUnprinted, KeptPrinting, played, session_of}
 use Rattle.script_run.proofs.Refusals.{words_told, refused_quiet}
 use Rattle.script_run.proofs.MadeLines.{made_text, unmade_text, Went}
 use Rattle.script_run.proofs.KeptFiles.{kept_leaves}

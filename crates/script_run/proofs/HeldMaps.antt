@@ -10,14 +10,14 @@ use Rattle.history_model.specs.Between.{ChangesRefusal, changes_between}
 use Rattle.history_model.specs.Held.{held, until_root, with_root}
 use Rattle.proof_model.specs.Refusals.{same_bytes}
 use Rattle.proof_model.specs.Takings.{taken as taken_of}
-use Rattle.proof_model.specs.ChangeProofs.{ChangeProof, change_proof, proof_of_changes}
+use Rattle.proof_model.specs.ChangeProofs.{ChangeProof, proof_of_changes}
 use Rattle.proof_model.specs.ChangeWire.{changes_form}
 use Rattle.text_model.specs.Texts.{changes_text}
 use Rattle.text_model.specs.Words.{RootWord}
-use Rattle.session_model.specs.Named.{Holding, holds_next, root_meant, named, and_later, leading_to, between, changes_proof_of, changes_proved}
+use Rattle.session_model.specs.Named.{holds_next, root_meant, named, and_later, leading_to, between, changes_proof_of, changes_proved}
 use Rattle.session_model.specs.Laws.{AreTold}
 use Rattle.session_model.proofs.NamedMaps.{changes_are_named}
-use Rattle.change_history.specs.Told.{IsTaken, Tells}
+use Rattle.change_history.specs.Told.{Tells}
 use Rattle.change_history.specs.declared.telling.Taken.{Taken}
 use Rattle.change_history.specs.declared.fault.HistoryFault.{HistoryFault}
 use Rattle.change_history.specs.declared.fault.HistoryFault.TheVariants as faults
@@ -29,7 +29,7 @@ use Rattle.mdb_core.specs.Spots.{IsSpotOf}
 use Rattle.mdb_core.specs.declared.spot.Spot.{Spot}
 use Rattle.mdb_core.specs.declared.store.At.TheVariants.{Root}
 use Rattle.script_run.specs.Naming.{IsSpotNamed, IsTakenBetween, IsProofBetween}
-use Rattle.script_run.specs.Steps.{holding_of}
+use Rattle.store_opening.specs.Opening.{holding_of}
 
 -- one map more, of which the limits stay
 pub held_next : (db db' : DbState) (m next : Map) → (db'.history.commits ≡ db.history.commits) × (db'.history.weight ≡ db.history.weight)

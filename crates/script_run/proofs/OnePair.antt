@@ -1,5 +1,5 @@
 -- One pair is listed at least, so no pair asked for and one pair asked for are the same.
-use Rattle.std.proofs.Common.{◌≡◌, ℕ, zero, suc, List, [], ◌∷◌, length, ◌≤◌, refl, ap, arith}
+use Rattle.std.proofs.Common.{◌≡◌, ℕ, zero, suc, List, [], ◌∷◌, length, refl, ap, arith}
 use Rattle.std.specs.Prelude.{max, nat_lt}
 use Rattle.trie_model.specs.Maps.{Map}
 use Rattle.range_model.specs.Ranges.{Range}

@@ -25,7 +25,8 @@ use Rattle.batch_text.specs.declared.reader.ReaderFault.TheVariants.{Read as Rea
 use Rattle.mdb_journal.specs.Moves.{AreSynced}
 use Rattle.mdb_core.specs.Stores.{DbState, Keeps}
 use Rattle.script_run.specs.Ends.{end_of, reader_end}
-use Rattle.script_run.specs.Steps.{IsAt, IsJustOpened, IsDone, PartRuns, AllDone, all_lines, played}
+use Rattle.store_opening.specs.Opening.{IsJustOpened}
+use Rattle.script_run.specs.Steps.{IsAt, IsDone, PartRuns, AllDone, all_lines, played}
 use Rattle.run_model.proofs.PrintedText.{nothing, and_then, same_text, whole}
 use Rattle.mdb_core.proofs.KeptStores.{kept_stands}
 use Rattle.script_run.proofs.KeptFiles.{kept_leaves}

@@ -1,12 +1,12 @@
 -- Lines on views that commit nothing.
 use Rattle.std.proofs.Common.{◌≡◌, ◌⊎◌, inl, inr, ℕ, ◌<◌, true, false, List, [], Option, Some, None, Result, Ok, Err, refl, sym, ◌∙◌, ap, subst}
-use Rattle.std.specs.Prelude.{IfOk, IfErr, OnOk, IsSome, MatchOption, String, string_bytes}
+use Rattle.std.specs.Prelude.{IfOk, IfErr, OnOk, MatchOption, String, string_bytes}
 use Rattle.std.specs.Global.{Global}
 use Rattle.std.proofs.lemmas.Bool.{le-ltb, lt-ltb}
 use Rattle.disk_model.specs.Files.{Files}
 use Rattle.disk_model.specs.Moments.{Moments}
 use Rattle.std.specs.FinMap as map_of
-use Rattle.trie_model.specs.Maps.{Map, limits, root, map_digests}
+use Rattle.trie_model.specs.Maps.{Map, limits, root}
 use Rattle.store_model.specs.Journal.{Stands}
 use Rattle.mdb_core.proofs.KeptStores.{kept_stands}
 use Rattle.batch_model.specs.Batch.{Change, after_batch}
@@ -26,7 +26,8 @@ use Rattle.mdb_core.specs.declared.fault.DbFault.{DbFault}
 use Rattle.mdb_core.specs.declared.fault.DbFault.TheVariants.{Disk, NotAStore, BranchDiffers, Damaged, Failed, Unknown, NotLive, NotHeld, TooMany, TooDeep, TooHeavy, TooLarge, NotParent, Full, NoMemory}
 use Rattle.script_run.specs.declared.end.SessionEnd.{SessionEnd}
 use Rattle.script_run.specs.Ends.{fault_end, cause_told, IsTextOf}
-use Rattle.script_run.specs.Steps.{IsAt, IsQuiet, holding_of, session_of}
+use Rattle.store_opening.specs.Opening.{holding_of}
+use Rattle.script_run.specs.Steps.{IsAt, IsQuiet, session_of}
 use Rattle.script_run.specs.declared.end.SessionEnd.TheVariants.{Disk as failed_disk, NoMemory as no_memory}
 use Rattle.script_run.proofs.MadeLines.{Went}
 use Rattle.script_run.proofs.Refusals.{words_told, text_quiet, refused_quiet}

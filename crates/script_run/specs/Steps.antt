@@ -11,27 +11,17 @@ use Rattle.text_model.specs.Lines.{input_limit, lines_within}
 use Rattle.text_model.specs.LineKind.{LineKind}
 use Rattle.text_model.specs.ReadLine.{Line}
 use Rattle.store_model.specs.Journal.{Stands}
-use Rattle.session_model.specs.Named.{Holding, holds_first}
 use Rattle.session_model.specs.Session.{Session, Step, Stop, Limit, start, prints}
 use Rattle.session_model.specs.Script.{Played, then_play, play, text_of}
 use Rattle.run_model.specs.End.{End, Disk}
 use Rattle.run_model.specs.Script.{HasSteps, IsStop, end_of_stop, Keeps as KeepsSteps}
-use Rattle.view_model.specs.Forest.{no_views}
-use Rattle.mdb_core.specs.Stores.{DbState, Keeps, held_maps}
+use Rattle.mdb_core.specs.Stores.{DbState, Keeps}
+use Rattle.store_opening.specs.Opening.{holding_of}
 use Rattle.script_run.specs.Ends.{limit_of}
 use Rattle.script_run.specs.declared.end.SessionEnd.{SessionEnd}
 use Rattle.script_run.specs.declared.end.SessionEnd.TheVariants.{Done as done, BadLine as bad_line, Limit as limit, Damaged as damaged_at, Read as failed_read, Write as failed_write, Disk as failed_disk, NoMemory as no_memory}
 
 -- ---- where the code is
-
--- the maps that a store of this map holds, and the limits of what it holds
-abbrev pub holding_of : DbState → Map → Holding
-holding_of db m = record { commits = db.history.commits; weight = db.history.weight; maps = held_maps db m }
-
--- a store that was just opened: it has no views, and of the maps that it may hold none but its own
-pub record IsJustOpened (db : DbState) : Type 0 where
-  pub views : db.forest ≡ no_views
-  pub holding : (m : Map) → holding_of db m ≡ holds_first m
 
 -- the store, the pending batch and the files are those of a session
 pub record IsAt (s : Session) (db : DbState) (pending : List Change) (files : Files) : Type 0 where

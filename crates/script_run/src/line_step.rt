@@ -118,6 +118,7 @@ fn do_line<D: Disk>(
         // No script has a line that checks a proof.
         Line::Point { .. } => Ok(String::new(alloc)),
         Line::VerifyRange { .. } => Ok(String::new(alloc)),
+        Line::VerifyChanges { .. } => Ok(String::new(alloc)),
     }
 }
 

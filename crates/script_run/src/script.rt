@@ -14,7 +14,8 @@ ghost use Rattle.mdb_base.specs.declared.faults.LimitKind.TheVariants.{Input};
 ghost use Rattle.mdb_journal.specs.Moves.{AreSynced};
 ghost use Rattle.mdb_core.specs.Stores.{Keeps, is_failed};
 ghost use Rattle.script_run.specs.Ends.{end_of, reader_end, StepCause, LinesCause};
-ghost use Rattle.script_run.specs.Steps.{IsAt, IsJustOpened, PartRuns, AllDone, all_lines, still};
+ghost use Rattle.store_opening.specs.Opening.{IsJustOpened};
+ghost use Rattle.script_run.specs.Steps.{IsAt, PartRuns, AllDone, all_lines, still};
 
 use crate::SessionEnd;
 use crate::committing::commit_and_print;

@@ -15,7 +15,7 @@ use Rattle.session_model.specs.Session.{Session, Step, Stop, start, commit, step
 use Rattle.session_model.specs.Script.{Played, then_play, play, and_then, at_end, ended, script, batches_of, after_step, after_steps, maps_from}
 use Rattle.session_model.specs.Laws.{HeldOfAllMaps}
 use Rattle.session_model.proofs.Outcomes.{Holds, of_commit, of_step}
-use Rattle.session_model.proofs.MapsOfScripts.{Moves, step-map, commit-map, play-map}
+use Rattle.session_model.proofs.MapsOfScripts.{Moves, step-map, play-map}
 
 -- ---- what is held after steps
 

@@ -6,7 +6,7 @@ use Rattle.std.specs.FinMap as map_of
 use Rattle.trie_model.specs.Maps.{Map, limits, root}
 use Rattle.batch_model.specs.Batch.{IsChange, after_batch}
 use Rattle.text_model.specs.LineKind.{LineKind}
-use Rattle.text_model.specs.ReadLine.{Line, Skip, Put, Del, Commit, View, Take, Close, State, Get, Root, Prove, Point, RangeOf, ChangesOf, VerifyRange, Script, read_line}
+use Rattle.text_model.specs.ReadLine.{Line, Skip, Put, Del, Commit, View, Take, Close, State, Get, Root, Prove, Point, RangeOf, ChangesOf, VerifyRange, VerifyChanges, Script, read_line}
 use Rattle.text_model.specs.Texts.{LimitKind, Pairs, Batch, closed_text, value_text, root_text, proof_text, range_text, changes_text}
 use Rattle.text_model.specs.Words.{PlaceWord}
 use Rattle.text_model.proofs.EachLine.{OfScript, of_script}
@@ -143,6 +143,7 @@ module _ (P : Session × Step → Type 0) (w : ℕ) (s : Session) (h : Holds P w
   of_line (RangeOf word asked pairs bytes) asks = of_range (range_proved w s.holding.maps word asked pairs bytes)
   of_line (ChangesOf from to asked pairs bytes) asks = of_changes (changes_proved w s.holding.maps from to asked pairs bytes)
   of_line (VerifyRange root asked proof) asks = h.still quiet refl
+  of_line (VerifyChanges root asked proof) asks = h.still quiet refl
 
   of_read : (n : ℕ) (read : Result Line LineKind) → IfOk read Asks → IfOk (read_step w n s read) P
   of_read n (Err kind) asks = tt

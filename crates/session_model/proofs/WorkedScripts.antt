@@ -190,7 +190,7 @@ no_pairs : (n : ℕ) (es : List (List ℕ × List ℕ)) → length es ≡ n → 
 no_pairs n [] size none = refl
 no_pairs n (e ∷ es) size none = let no : ⊥ = omega (arith, size, none) in absurd no
 
-entries-empty : map_of.entries no_map ≡ []
+pub entries-empty : map_of.entries no_map ≡ []
 entries-empty = no_pairs (map_of.len no_map) (map_of.entries no_map) (sym (map_of.len-entries no_map)) (map_of.len-empty bytes_cmp (List ℕ))
 
 -- a key is proved not to be in the empty map by no node

@@ -4,7 +4,7 @@ use Rattle.std.specs.FinMap as map_of
 use Rattle.trie_model.specs.Maps.{Map, root}
 use Rattle.batch_model.specs.Batch.{Change, set_change, after_batch}
 use Rattle.text_model.specs.LineKind.{LineKind}
-use Rattle.text_model.specs.ReadLine.{Line, Skip, Put, Del, Commit, View, Take, Close, State, Get, Root, Prove, Point, RangeOf, ChangesOf, VerifyRange, Script, read_line}
+use Rattle.text_model.specs.ReadLine.{Line, Skip, Put, Del, Commit, View, Take, Close, State, Get, Root, Prove, Point, RangeOf, ChangesOf, VerifyRange, VerifyChanges, Script, read_line}
 use Rattle.text_model.specs.Texts.{LimitKind, Pairs, Batch, commit_text, view_text, taken_text, closed_text, state_text, refused_text, value_text, root_text, proof_text, range_text, changes_text}
 use Rattle.text_model.specs.Words.{PlaceWord, Db, View as OfView}
 use Rattle.view_model.specs.Calls.{Refusal, number_limit, view_refused, parent_refused, make_refused, made, directed, closed, committed as with_committed}
@@ -182,6 +182,7 @@ line_step w s (Point root key proof) = Ok (s, quiet)
 line_step w s (RangeOf word asked pairs bytes) = Ok (s, told_range (range_proved w s.holding.maps word asked pairs bytes))
 line_step w s (ChangesOf from to asked pairs bytes) = Ok (s, told_changes (changes_proved w s.holding.maps from to asked pairs bytes))
 line_step w s (VerifyRange root asked proof) = Ok (s, quiet)
+line_step w s (VerifyChanges root asked proof) = Ok (s, quiet)
 
 abbrev pub or_limit : Result (Session × Step) LimitKind → Result (Session × Step) Stop
 or_limit (Ok next) = Ok next

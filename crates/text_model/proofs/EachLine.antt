@@ -10,7 +10,7 @@ use Rattle.range_model.specs.Ranges.{Range, IsRange}
 use Rattle.text_model.specs.Lines.{is_overlong}
 use Rattle.text_model.specs.Words.{PlaceWord, RootWord, words_of, hex_word, number_word, place_word, root_word, plain_root_word, most_pairs, most_bytes, count_word, range_between}
 use Rattle.text_model.specs.LineKind.{LineKind, TooLong, Word, Hex, Number, Place, Root as NoRoot, Bounds}
-use Rattle.text_model.specs.ReadLine.{Script, Verify, Line, Skip, Put, Del, Commit, View, Take, Close, State, Get, Root, Prove, Point, RangeOf, ChangesOf, VerifyRange, is_comment, key_word, value_word, bound_word, one_word, two_words, three_words, four_words, five_words, six_words, put_line, del_line, number_line, place_line, get_line, prove_line, point_line, range_line, changes_line, verify_range_line, commit_words, script_words, line_of_words, read_line}
+use Rattle.text_model.specs.ReadLine.{Script, Verify, Line, Skip, Put, Del, Commit, View, Take, Close, State, Get, Root, Prove, Point, RangeOf, ChangesOf, VerifyRange, VerifyChanges, is_comment, key_word, value_word, bound_word, one_word, two_words, three_words, four_words, five_words, six_words, put_line, del_line, number_line, place_line, get_line, prove_line, point_line, range_line, changes_line, verify_range_line, commit_words, script_words, line_of_words, read_line}
 use Rattle.text_model.specs.Laws.{IsPointLine, IsRangeLine, IsAskedRange}
 use Rattle.text_model.proofs.WordBytes.{Has, AreBytesWithin, hex_word_bytes, key_within, value_within}
 use Rattle.text_model.proofs.RootWords.{IsId, root_id}
@@ -37,6 +37,7 @@ pub record OfVerify (P : Line → Type 0) : Type 0 where
   pub skip : P Skip
   pub point : (root key proof : List ℕ) → IsPointLine root key proof → P (Point root key proof)
   pub range : (root : List ℕ) (asked : Range) (proof : List ℕ) → IsRangeLine root asked proof → P (VerifyRange root asked proof)
+  pub changes : (root : List ℕ) (asked : Range) (proof : List ℕ) → IsRangeLine root asked proof → P (VerifyChanges root asked proof)
 
 -- a word that is there has its property
 some_or : {A : Type 0} (Q : A → Type 0) (o : Option A) (kind : LineKind) → ((x : A) → Q x) → IfOk (ok_or o kind) Q
@@ -171,20 +172,22 @@ module _ (P : Line → Type 0) (h : OfVerify P) where
       and_then P AreBytes (ok_or (hex_word proof) Hex) _ (has_or AreBytes (hex_word proof) Hex (hex_word_bytes proof)) (λ p hp.
       h.point r k p (record { root_bytes = hr.0; root_length = hr.1; key_bytes = hk.0; key_short = hk.1; proof_bytes = hp })))))
 
-  checked_ranges : (words : List (List ℕ)) → IfOk (four_words verify_range_line words) P
-  checked_ranges = of_four P verify_range_line (λ root start end proof.
+  checked_ranges : (line : List ℕ → Range → List ℕ → Line) → ((root : List ℕ) (asked : Range) (proof : List ℕ) → IsRangeLine root asked proof → P (line root asked proof))
+      → (words : List (List ℕ)) → IfOk (four_words (verify_range_line line) words) P
+  checked_ranges line is_had = of_four P (verify_range_line line) (λ root start end proof.
       and_then P IsId (ok_or (plain_root_word root) NoRoot) _ (has_or IsId (plain_root_word root) NoRoot (root_id root)) (λ r hr.
       and_then P IsBound (bound_word start) _ (bound_within start) (λ a ha.
       and_then P IsBound (bound_word end) _ (bound_within end) (λ b hb.
       and_then P AreBytes (ok_or (hex_word proof) Hex) _ (has_or AreBytes (hex_word proof) Hex (hex_word_bytes proof)) (λ p hp.
       and_then P (IsRange limits) (ok_or (range_between a b) Bounds) _ (range_within a b ha hb) (λ asked is.
-      h.range r asked p (record { root_bytes = hr.0; root_length = hr.1; range = is; proof_bytes = hp })))))))
+      is_had r asked p (record { root_bytes = hr.0; root_length = hr.1; range = is; proof_bytes = hp })))))))
 
   verify_by_words : (words : List (List ℕ)) → IfOk (line_of_words Verify words) P
   verify_by_words [] = h.skip
   verify_by_words (command ∷ words) =
       by_word P command (codes "point") (three_words point_line words) _ (points words)
-      (by_word P command (codes "range") (four_words verify_range_line words) (Err Word) (checked_ranges words) tt)
+      (by_word P command (codes "range") (four_words (verify_range_line VerifyRange) words) _ (checked_ranges VerifyRange h.range words)
+      (by_word P command (codes "changes") (four_words (verify_range_line VerifyChanges) words) (Err Word) (checked_ranges VerifyChanges h.changes words) tt))
 
   -- a line of an input of proofs
   pub of_verify : (line : List ℕ) → IfOk (read_line Verify line) P

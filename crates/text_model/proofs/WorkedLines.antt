@@ -22,4 +22,4 @@ bad_script_lines = (refl, refl, refl, refl, refl, refl, refl, refl, refl, refl, 
 
 pub proof_lines : ProofLines
 unfolding decode_pairs zero_id
-proof_lines = (refl, refl, refl, refl, refl, refl, refl, refl, refl, refl, refl, refl, refl, refl, refl, refl, refl, refl, refl, refl, refl)
+proof_lines = (refl, refl, refl, refl, refl, refl, refl, refl, refl, refl, refl, refl, refl, refl, refl, refl, refl, refl, refl, refl, refl, refl, refl, refl, refl, refl)

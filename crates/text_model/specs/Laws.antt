@@ -9,7 +9,7 @@ use Rattle.trie_model.specs.Maps.{Map, IsMap, key_limit, limits, root}
 use Rattle.range_model.specs.Ranges.{Range, IsRange}
 use Rattle.text_model.specs.Lines.{is_overlong, lines_within}
 use Rattle.text_model.specs.LineKind.{LineKind}
-use Rattle.text_model.specs.ReadLine.{InputKind, Batch, Script, Verify, Line, Put, Del, Point, RangeOf, ChangesOf, VerifyRange, read_line, is_line}
+use Rattle.text_model.specs.ReadLine.{InputKind, Batch, Script, Verify, Line, Put, Del, Point, RangeOf, ChangesOf, VerifyRange, VerifyChanges, read_line, is_line}
 use Rattle.text_model.specs.FirstBad.{first_bad}
 use Rattle.text_model.specs.MapOfLines.{map_of_lines}
 use Rattle.text_model.specs.Words.{RootWord, hex_word, number_word, most_pairs, most_bytes}
@@ -105,7 +105,7 @@ pub record IsPointLine (root key proof : List ℕ) : Type 0 where
 abbrev pub PointLinesAreWithin : Type 0
 PointLinesAreWithin = (line root key proof : List ℕ) → read_line Verify line ≡ Ok (Point root key proof) → IsPointLine root key proof
 
--- what a line says of a range proof: the bytes of a root, a range of keys, and the bytes of the proof
+-- what a line says of a range proof, or of a change proof: the bytes of a root, a range of keys, and the bytes of the proof
 pub record IsRangeLine (root : List ℕ) (asked : Range) (proof : List ℕ) : Type 0 where
   pub root_bytes : AreBytes root
   pub root_length : length root ≡ hash_length
@@ -113,7 +113,9 @@ pub record IsRangeLine (root : List ℕ) (asked : Range) (proof : List ℕ) : Ty
   pub proof_bytes : AreBytes proof
 
 abbrev pub RangeLinesAreWithin : Type 0
-RangeLinesAreWithin = (line root : List ℕ) (asked : Range) (proof : List ℕ) → read_line Verify line ≡ Ok (VerifyRange root asked proof) → IsRangeLine root asked proof
+RangeLinesAreWithin =
+    ((line root : List ℕ) (asked : Range) (proof : List ℕ) → read_line Verify line ≡ Ok (VerifyRange root asked proof) → IsRangeLine root asked proof)
+    × ((line root : List ℕ) (asked : Range) (proof : List ℕ) → read_line Verify line ≡ Ok (VerifyChanges root asked proof) → IsRangeLine root asked proof)
 
 -- what a line asks for of a range, or of changes in one: a range of keys, and one pair and one byte at least, none of them more
 -- than may be asked for

@@ -16,7 +16,7 @@ pub data InputKind : Type 0 where
   -- these, `commit`, the lines on views, `prove ROOT KEY`, `range ROOT START END PAIRS BYTES`, and
   -- `changes FROM TO START END PAIRS BYTES`
   Script : InputKind
-  -- `point ROOT KEY HEX` and `range ROOT START END HEX`
+  -- `point ROOT KEY HEX`, `range ROOT START END HEX` and `changes ROOT START END HEX`
   Verify : InputKind
 
 -- what a line asks for
@@ -52,6 +52,8 @@ pub data Line : Type 0 where
   ChangesOf : RootWord → RootWord → Range → ℕ → ℕ → Line
   -- whether bytes prove what every map with this root has in a range
   VerifyRange : List ℕ → Range → List ℕ → Line
+  -- whether bytes prove how a map of one's own is led to every map with this root in a range
+  VerifyChanges : List ℕ → Range → List ℕ → Line
 
 -- a line whose first byte is `#`
 abbrev pub is_comment : List ℕ → Bool
@@ -187,14 +189,14 @@ changes_line from to start end pairs bytes = do
   Ok (ChangesOf f t asked n z)
 
 -- a root, the two bounds of a range, and the bytes of a proof
-abbrev pub verify_range_line : List ℕ → List ℕ → List ℕ → List ℕ → Result Line LineKind
-verify_range_line root start end proof = do
+abbrev pub verify_range_line : (List ℕ → Range → List ℕ → Line) → List ℕ → List ℕ → List ℕ → List ℕ → Result Line LineKind
+verify_range_line line root start end proof = do
   r ← ok_or (plain_root_word root) NoRoot
   a ← bound_word start
   b ← bound_word end
   p ← ok_or (hex_word proof) Hex
   asked ← ok_or (range_between a b) Bounds
-  Ok (VerifyRange r asked p)
+  Ok (line r asked p)
 
 -- ---- lines by their words
 
@@ -229,7 +231,8 @@ change_words other command words =
 abbrev pub verify_words : List ℕ → List (List ℕ) → Result Line LineKind
 verify_words command words =
     if bytes_eq command (codes "point") then three_words point_line words
-    else if bytes_eq command (codes "range") then four_words verify_range_line words
+    else if bytes_eq command (codes "range") then four_words (verify_range_line VerifyRange) words
+    else if bytes_eq command (codes "changes") then four_words (verify_range_line VerifyChanges) words
     else Err Word
 
 -- a line of an input of this kind

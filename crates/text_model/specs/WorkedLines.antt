@@ -2,7 +2,7 @@
 use Rattle.std.specs.Prelude.{◌≡◌, ℕ, List, [], ◌∷◌, ◌++◌, codes, replicate, Some, None, Result, Ok, Err}
 use Rattle.range_model.specs.Ranges.{Range, everything, only}
 use Rattle.text_model.specs.LineKind.{LineKind, Word, Count, Hex, LongKey, Number, Place, Root as NoRoot, Bounds}
-use Rattle.text_model.specs.ReadLine.{Batch, Script, Verify, Line, Skip, Put, Del, Commit, View, Take, Close, State, Get, Root, Prove, Point, RangeOf, ChangesOf, VerifyRange, read_line}
+use Rattle.text_model.specs.ReadLine.{Batch, Script, Verify, Line, Skip, Put, Del, Commit, View, Take, Close, State, Get, Root, Prove, Point, RangeOf, ChangesOf, VerifyRange, VerifyChanges, read_line}
 use Rattle.text_model.specs.Words.{Db, View as OfView, Id, Now, Empty, Back}
 
 -- a line of an input that makes a map
@@ -190,5 +190,11 @@ ProofLines =
     × (proof (codes "range now * * 01") ≡ Err NoRoot)
     × (proof (codes "range empty * *") ≡ Err Count)
     × (proof (codes "range empty * * 1 1") ≡ Err Count)
+    -- changes have the words of a range
+    × (proof (codes "changes empty 0a * 0102") ≡ Ok (VerifyChanges (replicate 32 0x00) (record { start = Some (0x0a ∷ []); end = None }) (0x01 ∷ 0x02 ∷ [])))
+    × (proof (codes "changes empty 0b 0a 0102") ≡ Err Bounds)
+    × (proof (codes "changes now * * 01") ≡ Err NoRoot)
+    × (proof (codes "changes empty * * 010") ≡ Err Hex)
+    × (proof (codes "changes now now * * 1 1") ≡ Err Count)
     × (proof (codes "put 6b 76") ≡ Err Word)
     × (proof (codes "prove now 6b") ≡ Err Word)

@@ -65,7 +65,7 @@ pub fn point_lines_are_within()
     ensures { PointLinesAreWithin }
 {}
 
-/// What a line says of a range proof: the bytes of a root, a range of keys, and the bytes of the proof.
+/// What a line says of a range proof, or of a change proof: the bytes of a root, a range of keys, and the bytes of the proof.
 pub fn range_lines_are_within()
     ensures { RangeLinesAreWithin }
 {}

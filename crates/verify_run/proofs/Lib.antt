@@ -1,3 +1,4 @@
 pub mod ProofFaults
 pub mod LinesSoFar
 pub mod VerifyEnds
+pub mod StoresLeft

@@ -6,7 +6,10 @@ use Rattle.text_model.specs.LineKind.{LineKind}
 use Rattle.text_model.specs.ReadLine.{Line, Point, VerifyRange}
 use Rattle.text_model.specs.Texts.{ok_text}
 use Rattle.proof_model.specs.Checked.{Cause}
-use Rattle.run_model.specs.Verify.{Fault, Refused}
+use Rattle.run_model.specs.End.{End, NotOpened}
+use Rattle.run_model.specs.Verify.{Fault, Refused, Unopened}
+use Rattle.mdb_core.specs.declared.fault.DbFault.TheVariants.{Disk as disk_fault}
+use Rattle.store_opening.specs.Opening.{end_of_fault}
 use Rattle.proof_check.specs.declared.refusal.Refusal.TheVariants.{Wire, Verify}
 use Rattle.proof_check.specs.declared.verify_fault.VerifyFault.{VerifyFault}
 use Rattle.proof_check.specs.declared.verify_fault.VerifyFault.TheVariants as checks
@@ -27,12 +30,25 @@ wire_fault other fault = faults.Refused (Wire fault)
 -- and of one that is not accepted
 abbrev pub check_fault : VerifyFault → ProofFault
 check_fault checks.NoMemory = faults.NoMemory
+check_fault checks.Failed = faults.Store disk_fault
 check_fault other = faults.Refused (Verify other)
+
+-- how a run ends at the line of this number whose proof shows nothing
+abbrev pub end_at : ℕ → ProofFault → VerifyEnd
+end_at number (faults.Refused cause) = ends.Refused number cause
+end_at number (faults.Store fault) = ends.Store fault
+end_at number faults.NoMemory = ends.NoMemory
 
 -- why a proof shows nothing; want of memory may come in the place of any answer
 abbrev pub IsRefused : {A : Type 0} → Result A Cause → ProofFault → Type 0
 IsRefused checked (faults.Refused cause) = checked ≡ Err (seen_cause cause)
 IsRefused checked faults.NoMemory = Unit {0}
+IsRefused checked (faults.Store fault) = ⊥
+
+-- so of a proof that is checked against the map of a store, whose disk may fail in the place of any answer
+abbrev pub IsRefusedOr : {A : Type 0} → Result A Cause → ProofFault → Type 0
+IsRefusedOr checked (faults.Store fault) = Unit {0}
+IsRefusedOr checked other = IsRefused checked other
 
 -- the line of this number is not understood, or memory ran out
 abbrev pub IsUnread : ℕ → Result Line LineKind → VerifyEnd → Type 0
@@ -48,12 +64,28 @@ AsLine other = Unit {0}
 
 -- ---- a line, of which this is the verdict
 
--- its proof shows so many pairs, or it tells of none and prints nothing
+-- its proof shows so many pairs or changes
+abbrev pub IsCounted : ℕ → Result (List ℕ) Fault → Type 0
+IsCounted pairs verdict = verdict ≡ Ok (ok_text pairs)
+
+-- so, or it tells of none and prints nothing
 abbrev pub IsShown : Option ℕ → Result (List ℕ) Fault → Type 0
-IsShown (Some pairs) verdict = verdict ≡ Ok (ok_text pairs)
+IsShown (Some pairs) verdict = IsCounted pairs verdict
 IsShown None verdict = verdict ≡ Ok []
 
--- its proof shows nothing, for this reason; want of memory may come in the place of any verdict
+-- files that are not opened are told as such, where a run ends so; a disk that failed and want of memory may come in the place of
+-- any verdict
+abbrev pub TellsStore : End → Result (List ℕ) Fault → Type 0
+TellsStore (NotOpened why) verdict = verdict ≡ Err (Unopened why)
+TellsStore other verdict = Unit {0}
+
+-- its proof shows nothing, for this reason
 abbrev pub IsNotShown : ProofFault → Result (List ℕ) Fault → Type 0
 IsNotShown (faults.Refused cause) verdict = verdict ≡ Err (Refused (seen_cause cause))
+IsNotShown (faults.Store fault) verdict = TellsStore (end_of_fault fault) verdict
 IsNotShown faults.NoMemory verdict = Unit {0}
+
+-- it does not tell of a store
+abbrev pub IsOfNoStore : ProofFault → Type 0
+IsOfNoStore (faults.Store fault) = ⊥
+IsOfNoStore other = Unit {0}

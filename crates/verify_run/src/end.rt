@@ -3,6 +3,7 @@ ghost use Rattle.verify_run.specs.declared.end.VerifyEnd.TheVariants.{NoMemory a
 ghost use Rattle.verify_run.specs.Ends.{reader_end};
 
 use batch_text::ReaderFault;
+use mdb_core::DbFault;
 use proof_check::Refusal;
 use std::alloc::AllocError;
 
@@ -15,6 +16,8 @@ pub enum VerifyEnd {
     BadLine(u64),
     /// The line of this number is the first whose proof is refused.
     Refused { line: u64, cause: Refusal },
+    /// The store is not opened at the first line that tells of changes, or not read, and this is why.
+    Store(DbFault),
     /// The input goes past its limit.
     Limit,
     /// The input could not be read.

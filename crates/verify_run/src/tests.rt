@@ -1,10 +1,13 @@
 // Lines of proofs. Each root is the SHA-256 of a string that is written beside it.
 use crate::{VerifyEnd, cause_text, verify};
 use bit_keys::Branch;
+use disk_world::Disk;
 use mdb_base::{MemSink, MemSource, NoMemory};
+use mem_world::MemDisk;
 use std::alloc::Global;
 use std::process::Abort;
 use std::test::Fail;
+use store_opening::open_store;
 
 /// Of 76 at 6b: 00 01 01 76 08 6b.
 const ONE: &str = "1e06a9a1d455f9698b60b63f9d11dbed46ae35a85b0d74fa5b05423b34217822";
@@ -32,6 +35,7 @@ fn words_of(alloc: Global, end: &VerifyEnd) -> Result<String, NoMemory> {
             let why = cause_text(alloc, cause)?;
             format!(in alloc; "line {line} refused, {why}")?
         }
+        VerifyEnd::Store(fault) => format!(in alloc; "{fault}")?,
         VerifyEnd::Limit => String::from_str(alloc, "limit")?,
         VerifyEnd::Read => String::from_str(alloc, "read")?,
         VerifyEnd::Write => String::from_str(alloc, "write")?,
@@ -62,7 +66,24 @@ fn source(alloc: Global, text: &str, failing: &[u64]) -> Result<MemSource, Fail>
     Ok(MemSource::new(bytes, 7, failing))
 }
 
-// That the lines end so, and print this.
+// That the lines end so, and print this, beside such a disk.
+fn assert_on<D: Disk>(
+    rt: &impl Abort,
+    alloc: Global,
+    disk: &mut D,
+    text: &str,
+    want: &str,
+    printed: &str,
+) -> Result<(), Fail> {
+    let mut input = source(alloc, text, &[])?;
+    let mut out = MemSink::new(alloc, Vec::new(alloc));
+    let end = verify(alloc, Branch::B16, &mut input, &mut out, disk);
+    assert_eq!(rt; words_of(alloc, &end)?, filled(alloc, want)?, "of {text}");
+    assert_eq!(rt; out.bytes(), printed.as_bytes(), "printed of {text}");
+    Ok(())
+}
+
+// So beside a disk without files.
 fn assert_run(
     rt: &impl Abort,
     alloc: Global,
@@ -70,12 +91,7 @@ fn assert_run(
     want: &str,
     printed: &str,
 ) -> Result<(), Fail> {
-    let mut input = source(alloc, text, &[])?;
-    let mut out = MemSink::new(alloc, Vec::new(alloc));
-    let end = verify(alloc, Branch::B16, &mut input, &mut out);
-    assert_eq!(rt; words_of(alloc, &end)?, filled(alloc, want)?, "of {text}");
-    assert_eq!(rt; out.bytes(), printed.as_bytes(), "printed of {text}");
-    Ok(())
+    assert_on(rt, alloc, &mut MemDisk::new(alloc), text, want, printed)
 }
 
 #[test]
@@ -153,6 +169,73 @@ fn lines_of_ranges_are_checked_too(rt: HostRuntime) -> Result<(), Fail> {
 }
 
 #[test]
+fn changes_are_checked_against_the_map_of_the_store(rt: HostRuntime) -> Result<(), Fail> {
+    let alloc = rt.alloc();
+    // A put of 76 at 6b, which leads the empty map to that of one pair; a deletion where nothing is; no change.
+    let rows: [(&str, &str, &str); 7] = [
+        (
+            "changes @ * * 01020001016b0101760000\npoint @ 6b 010401017601086b01017600\nchanges @ 6b 6b 01020001016b01017601086b0101760001086b01017600\n",
+            "done",
+            "ok 1\nok 1\nok 1\n",
+        ),
+        (
+            "changes empty * * 010200000000\nchanges empty * * 01020001016b000000\n",
+            "line 2 refused, idle 0",
+            "ok 0\n",
+        ),
+        (
+            "changes % * * 01020001016b0101760000\n",
+            "line 1 refused, root differs @ %",
+            "",
+        ),
+        (
+            "changes @ 6c * 01020001016b0101760000\n",
+            "line 1 refused, outside 0",
+            "",
+        ),
+        (
+            "changes @ * * 01010001016b0101760000\n",
+            "line 1 refused, bytes at 1",
+            "",
+        ),
+        ("changes empty 0b 0a 010200000000\n", "line 1", ""),
+        ("changes now * * 010200000000\n", "line 1", ""),
+    ];
+    for (text, want, printed) in rows {
+        assert_run(&rt, alloc, text, want, printed)?;
+    }
+    Ok(())
+}
+
+#[test]
+fn a_store_is_opened_at_the_first_line_of_changes(rt: HostRuntime) -> Result<(), Fail> {
+    let alloc = rt.alloc();
+    let plain = "point empty - 01040000\n";
+    let asking = "point empty - 01040000\nchanges empty * * 010200000000\npoint empty - 01040000\n";
+    let refused = "point empty 6b 010402\nchanges empty * * 010200000000\n";
+    // A store with another factor is no hindrance to lines that ask for none.
+    let mut other = MemDisk::new(alloc);
+    open_store(alloc, Branch::B256, &mut other)?.close(&mut other)?;
+    assert_on(&rt, alloc, &mut other, plain, "done", "ok 0\n")?;
+    assert_on(
+        &rt,
+        alloc,
+        &mut other,
+        refused,
+        "line 1 refused, bytes at 2",
+        "",
+    )?;
+    assert_on(
+        &rt,
+        alloc,
+        &mut other,
+        asking,
+        "the branch factor is 256 and not 16",
+        "ok 0\n",
+    )
+}
+
+#[test]
 fn a_failed_read_or_write_is_told(rt: HostRuntime) -> Result<(), Fail> {
     let alloc = rt.alloc();
     let text = "point empty - 01040000\npoint empty - 01040000\n";
@@ -166,7 +249,8 @@ fn a_failed_read_or_write_is_told(rt: HostRuntime) -> Result<(), Fail> {
     for (reads, writes, want, printed) in rows {
         let mut input = source(alloc, text, reads)?;
         let mut out = MemSink::new(alloc, Vec::from_slice(alloc, writes)?);
-        let end = verify(alloc, Branch::B16, &mut input, &mut out);
+        let mut disk = MemDisk::new(alloc);
+        let end = verify(alloc, Branch::B16, &mut input, &mut out, &mut disk);
         assert_eq!(rt;
             words_of(alloc, &end)?.as_str(),
             want,

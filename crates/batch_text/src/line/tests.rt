@@ -64,6 +64,14 @@ fn told(alloc: Global, kind: InputKind, line: &[u8]) -> Result<String, Fail> {
                 proof.as_slice()
             )?
         }
+        Line::VerifyChanges { root, range, proof } => {
+            format!(in alloc;
+                "changes {root:?} {:?} {:?} {:?}",
+                range.start(),
+                range.end(),
+                proof.as_slice()
+            )?
+        }
     };
     Ok(text)
 }
@@ -234,7 +242,7 @@ const SCRIPT: [(&str, &str); 87] = [
 ];
 
 // Lines of an input of proofs.
-const VERIFY: [(&str, &str); 21] = [
+const VERIFY: [(&str, &str); 24] = [
     (
         " point\tempty - 01 ",
         "point [0, 0, 0, 0, 0, 0, 0, 0, 0, 0, 0, 0, 0, 0, 0, 0, 0, 0, 0, 0, 0, 0, 0, 0, 0, 0, 0, 0, 0, 0, 0, 0] [] [1]",
@@ -253,6 +261,12 @@ const VERIFY: [(&str, &str); 21] = [
         "range empty * 0a -",
         "range [0, 0, 0, 0, 0, 0, 0, 0, 0, 0, 0, 0, 0, 0, 0, 0, 0, 0, 0, 0, 0, 0, 0, 0, 0, 0, 0, 0, 0, 0, 0, 0] None Some([10]) []",
     ),
+    (
+        "changes empty * 0a 0102",
+        "changes [0, 0, 0, 0, 0, 0, 0, 0, 0, 0, 0, 0, 0, 0, 0, 0, 0, 0, 0, 0, 0, 0, 0, 0, 0, 0, 0, 0, 0, 0, 0, 0] None Some([10]) [1, 2]",
+    ),
+    ("changes empty 0b 0a 0102", "Bounds"),
+    ("changes now now * * 1 1", "Count"),
     ("point now 6b 01", "Root"),
     ("point ~0 6b 01", "Root"),
     ("point Empty 6 0", "Root"),

@@ -165,7 +165,7 @@ const WAITS: &str =
 
 #[test]
 fn a_terminal_is_told_more(rt: HostRuntime) -> Result<(), Fail> {
-    let rows: [(Terminals, &[&str], &[u8], &str); 13] = [
+    let rows: [(Terminals, &[&str], &[u8], &str); 14] = [
         (
             INPUT,
             &["-", "root", "8"],
@@ -226,6 +226,13 @@ fn a_terminal_is_told_more(rt: HostRuntime) -> Result<(), Fail> {
             &["\u{1b}c", "get", "16", "6b"],
             b"x",
             "mdb: disk failed\nFOLDER has to be a folder that is there, in which you may write, with room on its disk\n",
+        ),
+        // A line of changes asks for a store, and `-` is none.
+        (
+            ERRORS,
+            &["-", "verify", "16"],
+            b"changes empty * * 01\n",
+            "mdb: disk failed\nFOLDER is the folder of a store here; one of the name - is ./-\n",
         ),
         (
             ERRORS,

@@ -5,6 +5,7 @@ use crate::status::Status;
 use disk_world::{Disk, Failed};
 use mdb_base::{MemSink, MemSource};
 use mem_world::{MemDisk, Pick};
+use proof_check::{Refusal, VerifyFault};
 use std::alloc::Global;
 use std::process::Abort;
 use std::test::Fail;
@@ -151,6 +152,36 @@ fn what_a_store_proves_is_accepted(rt: HostRuntime) -> Result<(), Fail> {
         &mut disk,
         &[(&["-", "verify", "16"], lines, Status::Done, "ok 1\nok 0\n")],
     )
+}
+
+// Changes are checked against the map that the store of the run has, and it keeps that. No change leads {6b: 76} to
+// itself; a put of what is there is idle; and a store with another factor is not opened, but where a line asks for it.
+#[test]
+fn changes_are_checked_against_the_store(rt: HostRuntime) -> Result<(), Fail> {
+    const VERIFY: &[&str] = &["D", "verify", "16"];
+    const OTHER: &[&str] = &["D", "verify", "256"];
+    let none = b"point empty - 01040000\n\
+        changes 1e06a9a1d455f9698b60b63f9d11dbed46ae35a85b0d74fa5b05423b34217822 * * 010200000000\n";
+    let idle =
+        b"changes 1e06a9a1d455f9698b60b63f9d11dbed46ae35a85b0d74fa5b05423b34217822 * * 01020001016b0101760000\n";
+    let refused = Status::VerifyRefused {
+        line: 1,
+        cause: Refusal::Verify(VerifyFault::Idle(0)),
+    };
+    let differs = Status::BranchDiffers {
+        kept: 16,
+        asked: 256,
+    };
+    let turns: &[Turn] = &[
+        (APPLY, b"put 6b 76\n", Status::Done, ONE),
+        (VERIFY, none, Status::Done, "ok 0\nok 0\n"),
+        (VERIFY, idle, refused, ""),
+        (OTHER, b"point empty - 01040000\n", Status::Done, "ok 0\n"),
+        (OTHER, none, differs, "ok 0\n"),
+        (GET, b"", Status::Done, "value 76\n"),
+    ];
+    let alloc = rt.alloc();
+    assert_turns(&rt, alloc, &mut MemDisk::new(alloc), turns)
 }
 
 /// The proof of the range from 0a to 0a of {0a: 61, 0b: 62}: the pair, and twice the path of 0a, which has the node

@@ -7,4 +7,6 @@ returns c = passed_lines_are_true (record {
   points_read = c.read_points_are_spelled.ensures;
   ranges = c.accepted_ranges_are_true.ensures;
   ranges_read = c.read_ranges_are_spelled.ensures;
+  changes = c.accepted_changes_are_true.ensures;
+  changes_read = c.read_changes_are_spelled.ensures;
 })

@@ -1,7 +1,7 @@
 use Rattle.std.proofs.Common.{refl}
 use Rattle.bit_keys.specs.Branch.{width_of}
 use Rattle.run_model.specs.Outside.{outside, disk_seen}
-use Rattle.mdb_tool.specs.Ends.{end_of}
+use Rattle.store_opening.specs.Opening.{end_of_fault}
 use Rattle.run_model.proofs.Telling.{took_nothing}
 use Rattle.mdb_tool.proofs.ApplyEnds.{Scripted, apply_failed, script_done}
 use Rattle.mdb_tool.proofs.apply_command.run_apply.Goals as goal
@@ -10,15 +10,15 @@ pub returns-in-Err-clause-shared : goal.returns-in-Err-clause-shared
 returns-in-Err-clause-shared g c =
     let before = outside (g.S.Source.left c.args.input.now) (g.S.Source.faults c.args.input.now) (g.K.Sink.taken c.args.out.now) (g.K.Sink.faults c.args.out.now) (disk_seen g.D.Disk.words c.args.disk.now) in
     let after = outside (g.S.Source.left c.args.input.now) (g.S.Source.faults c.args.input.now) (g.K.Sink.taken c.args.out.now) (g.K.Sink.faults c.args.out.now) (disk_seen g.D.Disk.words c.open_store.new.disk) in
-    let promises = apply_failed (width_of c.args.branch) before after (end_of c.in-Err.status) refl (took_nothing (g.K.Sink.taken c.args.out.now)) c.in-Err.ensures.fails c.open_store.ensures.opens in
-    promises.shared
+    let promises = apply_failed (width_of c.args.branch) before after (end_of_fault c.in-Err.fault) refl (took_nothing (g.K.Sink.taken c.args.out.now)) c.in-Err.ensures.fails c.open_store.ensures.opens in
+    rw c.status_of_fault.ensures promises.shared
 
 pub returns-in-Err-clause-apply : goal.returns-in-Err-clause-apply
 returns-in-Err-clause-apply g c =
     let before = outside (g.S.Source.left c.args.input.now) (g.S.Source.faults c.args.input.now) (g.K.Sink.taken c.args.out.now) (g.K.Sink.faults c.args.out.now) (disk_seen g.D.Disk.words c.args.disk.now) in
     let after = outside (g.S.Source.left c.args.input.now) (g.S.Source.faults c.args.input.now) (g.K.Sink.taken c.args.out.now) (g.K.Sink.faults c.args.out.now) (disk_seen g.D.Disk.words c.open_store.new.disk) in
-    let promises = apply_failed (width_of c.args.branch) before after (end_of c.in-Err.status) refl (took_nothing (g.K.Sink.taken c.args.out.now)) c.in-Err.ensures.fails c.open_store.ensures.opens in
-    promises.apply
+    let promises = apply_failed (width_of c.args.branch) before after (end_of_fault c.in-Err.fault) refl (took_nothing (g.K.Sink.taken c.args.out.now)) c.in-Err.ensures.fails c.open_store.ensures.opens in
+    rw c.status_of_fault.ensures promises.apply
 
 pub returns-clause-shared : goal.returns-clause-shared
 returns-clause-shared g c =

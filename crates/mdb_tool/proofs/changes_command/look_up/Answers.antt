@@ -9,7 +9,8 @@ use Rattle.run_model.specs.Outside.{disk_seen}
 use Rattle.run_model.specs.Changes.{changes_outcome}
 use Rattle.trie_model.specs.Maps.{Map}
 use Rattle.mdb_core.specs.Stores.{DbState, held_maps, is_failed}
-use Rattle.mdb_tool.proofs.Openings.{open_stands, reading_fails, untouched_keeps, first_held}
+use Rattle.store_opening.proofs.Openings.{open_stands, untouched_keeps, first_held}
+use Rattle.mdb_tool.proofs.FailedReads.{reading_fails}
 use Rattle.mdb_tool.specs.Finding.{IsLineOf}
 use Rattle.mdb_tool.proofs.ReadEnds.{found_in, line_of_changes}
 use Rattle.mdb_tool.proofs.changes_command.look_up.Goals as goal

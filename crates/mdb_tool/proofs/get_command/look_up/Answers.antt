@@ -4,7 +4,7 @@ use Rattle.bit_keys.specs.Branch.{width_of}
 use Rattle.run_model.specs.Outside.{disk_seen}
 use Rattle.mdb_core.specs.Stores.{DbState, is_failed}
 use Rattle.mdb_core.specs.declared.fault.DbFault.{DbFault}
-use Rattle.mdb_tool.proofs.Openings.{look_up_fails, store_fails, untouched_keeps}
+use Rattle.store_opening.proofs.Openings.{look_up_fails, store_fails, untouched_keeps}
 use Rattle.mdb_tool.specs.Finding.{IsValueAt}
 use Rattle.mdb_tool.proofs.ReadEnds.{found_in}
 use Rattle.mdb_tool.proofs.get_command.look_up.Goals as goal
@@ -14,7 +14,7 @@ returns-in-Err-get-clause-fails g c =
     let words = g.D.Disk.words in
     let opened = c.in-Ok.ensures.opened in
     let e = c.in-Err-get.ensures in
-    rw c.status_of_fault.ensures
+    rw c.status_of_fault-in-Err-get.ensures
     (look_up_fails (width_of c.args.branch) (disk_seen words c.args.disk.now) (disk_seen words c.open_store.new.disk) (disk_seen words c.get.new.disk) c.in-Ok.db c.in-Err-get.fault opened c.open_store.ensures.later c.get.ensures.untouched
     (store_fails c.in-Ok.db c.in-Err-get.fault opened.works e.fault) (λ is. e.disk (ap (λ (f : DbFault). Err f) is)))
 

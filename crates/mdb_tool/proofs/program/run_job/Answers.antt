@@ -93,17 +93,3 @@ returns-in-Changes-clause-runs g c =
     let before = outside left reads (g.K.Sink.taken c.args.out.now) (g.K.Sink.faults c.args.out.now) (disk_seen g.D.Disk.words c.args.disk.now) in
     let after = outside left reads (g.K.Sink.taken c.run_changes.new.out) (g.K.Sink.faults c.run_changes.new.out) (disk_seen g.D.Disk.words c.run_changes.new.disk) in
     subst (λ (command : Command). command_runs (seen_command command) w before after (end_of c.run_changes.result)) (sym c.in-Changes.is) (c.run_changes.ensures.changes left reads)
-
-pub returns-in-Verify-clause-shared : goal.returns-in-Verify-clause-shared
-returns-in-Verify-clause-shared g c =
-    let disk = disk_seen g.D.Disk.words c.args.disk.now in
-    let before = outside (g.S.Source.left c.args.input.now) (g.S.Source.faults c.args.input.now) (g.K.Sink.taken c.args.out.now) (g.K.Sink.faults c.args.out.now) disk in
-    let after = outside (g.S.Source.left c.run_verify.new.input) (g.S.Source.faults c.run_verify.new.input) (g.K.Sink.taken c.run_verify.new.out) (g.K.Sink.faults c.run_verify.new.out) disk in
-    subst (λ (command : Command). SharedRuns (seen_command command) (width_of c.args.job.branch) before after (end_of c.run_verify.result)) (sym c.in-Verify.is) (c.run_verify.ensures.shared disk)
-
-pub returns-in-Verify-clause-runs : goal.returns-in-Verify-clause-runs
-returns-in-Verify-clause-runs g c =
-    let disk = disk_seen g.D.Disk.words c.args.disk.now in
-    let before = outside (g.S.Source.left c.args.input.now) (g.S.Source.faults c.args.input.now) (g.K.Sink.taken c.args.out.now) (g.K.Sink.faults c.args.out.now) disk in
-    let after = outside (g.S.Source.left c.run_verify.new.input) (g.S.Source.faults c.run_verify.new.input) (g.K.Sink.taken c.run_verify.new.out) (g.K.Sink.faults c.run_verify.new.out) disk in
-    subst (λ (command : Command). command_runs (seen_command command) (width_of c.args.job.branch) before after (end_of c.run_verify.result)) (sym c.in-Verify.is) (c.run_verify.ensures.verify disk)

@@ -8,7 +8,8 @@ use Rattle.run_model.specs.Outside.{disk_seen}
 use Rattle.run_model.specs.Prove.{prove_outcome}
 use Rattle.trie_model.specs.Maps.{Map}
 use Rattle.mdb_core.specs.Stores.{DbState, held_maps, is_failed}
-use Rattle.mdb_tool.proofs.Openings.{reading_fails, untouched_keeps, first_held}
+use Rattle.store_opening.proofs.Openings.{untouched_keeps, first_held}
+use Rattle.mdb_tool.proofs.FailedReads.{reading_fails}
 use Rattle.mdb_tool.specs.Finding.{IsLineOf}
 use Rattle.mdb_tool.proofs.ReadEnds.{found_in, line_of_proof}
 use Rattle.mdb_tool.proofs.prove_command.look_up.Goals as goal

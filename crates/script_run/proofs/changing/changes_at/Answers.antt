@@ -1,4 +1,4 @@
-use Rattle.std.proofs.Common.{◌≡◌, ℕ, Option, Some, None, sym, ap, ◌∙◌, subst}
+use Rattle.std.proofs.Common.{◌≡◌, ℕ, Option, sym, ap, ◌∙◌, subst}
 use Rattle.std.specs.Prelude.{IfSome}
 use Rattle.bit_keys.specs.Branch.{width_of}
 use Rattle.trie_model.specs.Maps.{Map}
@@ -9,7 +9,7 @@ use Rattle.mdb_core.specs.Stores.{DbState, Keeps, held_maps}
 use Rattle.mdb_core.proofs.KeptStores.{kept_same}
 use Rattle.mdb_core.specs.Spots.{IsSpotOf}
 use Rattle.mdb_core.specs.Places.{GetFails}
-use Rattle.script_run.specs.Naming.{IsTakenBetween, IsProofBetween}
+use Rattle.script_run.specs.Naming.{IsTakenBetween}
 use Rattle.script_run.proofs.HeldMaps.{later_named, not_named, none_taken, none_between, proof_taken}
 use Rattle.script_run.proofs.changing.changes_at.Goals as goal
 

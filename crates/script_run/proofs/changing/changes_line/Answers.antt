@@ -1,7 +1,5 @@
-use Rattle.std.proofs.Common.{◌≡◌, Option, Some, None, option_map, sym, ap, ◌∙◌, subst}
-use Rattle.text_model.specs.Texts.{changes_text}
+use Rattle.std.proofs.Common.{Option, Some, None, sym, ap, ◌∙◌, subst}
 use Rattle.proof_model.specs.ChangeProofs.{ChangeProof}
-use Rattle.proof_model.specs.ChangeWire.{changes_form}
 use Rattle.session_model.specs.Named.{between}
 use Rattle.batch_text.specs.SeenLine.{seen_root}
 use Rattle.mdb_core.specs.Stores.{held_maps}

@@ -1,4 +1,4 @@
-use Rattle.std.proofs.Common.{[], Err, ap, sym, subst}
+use Rattle.std.proofs.Common.{[], Err, sym, subst}
 use Rattle.mdb_core.specs.Applies.{ApplyFails}
 use Rattle.session_model.specs.Session.{commit, or_limit}
 use Rattle.script_run.specs.declared.end.SessionEnd.{SessionEnd}

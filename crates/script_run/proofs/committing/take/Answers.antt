@@ -1,4 +1,4 @@
-use Rattle.std.proofs.Common.{ap, subst}
+use Rattle.std.proofs.Common.{subst}
 use Rattle.mdb_core.specs.Proposals.{TakeFails}
 use Rattle.session_model.specs.Session.{take, or_limit}
 use Rattle.script_run.specs.Steps.{session_of}

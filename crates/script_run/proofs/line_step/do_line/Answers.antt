@@ -688,8 +688,8 @@ returns-in-Point-clause-told g c = λ tells m keeps synced.
     let quiet : IsQuiet made (Ok c.new-in-Point.result) db pending files = subst (λ (line : Line). IsQuiet (or_limit (line_step w s (seen_line line))) (Ok c.new-in-Point.result) db pending files) (sym c.in-Point.is) (skip_quiet m db pending files (Ok c.new-in-Point.result) keeps c.new-in-Point.ensures.bytes) in
     quiet_told s made (Ok c.new-in-Point.result) db pending files old now refl (kept_leaves db m (d.seen c.args.disk.now) old keeps synced) quiet
 
-pub returns-clause-done : goal.returns-clause-done
-returns-clause-done g c = λ tells m keeps.
+pub returns-in-VerifyRange-clause-done : goal.returns-in-VerifyRange-clause-done
+returns-in-VerifyRange-clause-done g c = λ tells m keeps.
     let d = g.D.Disk.words in
     let db = c.args.db.now in
     let w = db.width in
@@ -702,8 +702,8 @@ returns-clause-done g c = λ tells m keeps.
     let quiet : IsQuiet made (Ok c.new-in-VerifyRange.result) db pending files = subst (λ (line : Line). IsQuiet (or_limit (line_step w s (seen_line line))) (Ok c.new-in-VerifyRange.result) db pending files) (sym c.in-VerifyRange.is) (skip_quiet m db pending files (Ok c.new-in-VerifyRange.result) keeps c.new-in-VerifyRange.ensures.bytes) in
     quiet_done s made (Ok c.new-in-VerifyRange.result) db pending files quiet
 
-pub returns-clause-told : goal.returns-clause-told
-returns-clause-told g c = λ tells m keeps synced.
+pub returns-in-VerifyRange-clause-told : goal.returns-in-VerifyRange-clause-told
+returns-in-VerifyRange-clause-told g c = λ tells m keeps synced.
     let d = g.D.Disk.words in
     let db = c.args.db.now in
     let w = db.width in
@@ -715,3 +715,31 @@ returns-clause-told g c = λ tells m keeps synced.
     let now = d.moments c.args.disk.now in
     let quiet : IsQuiet made (Ok c.new-in-VerifyRange.result) db pending files = subst (λ (line : Line). IsQuiet (or_limit (line_step w s (seen_line line))) (Ok c.new-in-VerifyRange.result) db pending files) (sym c.in-VerifyRange.is) (skip_quiet m db pending files (Ok c.new-in-VerifyRange.result) keeps c.new-in-VerifyRange.ensures.bytes) in
     quiet_told s made (Ok c.new-in-VerifyRange.result) db pending files old now refl (kept_leaves db m (d.seen c.args.disk.now) old keeps synced) quiet
+
+pub returns-clause-done : goal.returns-clause-done
+returns-clause-done g c = λ tells m keeps.
+    let d = g.D.Disk.words in
+    let db = c.args.db.now in
+    let w = db.width in
+    let pending = c.args.pending.now in
+    let s = session_of m db pending in
+    let made = or_limit (line_step w s (seen_line c.args.line)) in
+    let files = d.seen c.args.disk.now in
+    let old = d.moments c.args.disk.now in
+    let now = d.moments c.args.disk.now in
+    let quiet : IsQuiet made (Ok c.new-in-VerifyChanges.result) db pending files = subst (λ (line : Line). IsQuiet (or_limit (line_step w s (seen_line line))) (Ok c.new-in-VerifyChanges.result) db pending files) (sym c.in-VerifyChanges.is) (skip_quiet m db pending files (Ok c.new-in-VerifyChanges.result) keeps c.new-in-VerifyChanges.ensures.bytes) in
+    quiet_done s made (Ok c.new-in-VerifyChanges.result) db pending files quiet
+
+pub returns-clause-told : goal.returns-clause-told
+returns-clause-told g c = λ tells m keeps synced.
+    let d = g.D.Disk.words in
+    let db = c.args.db.now in
+    let w = db.width in
+    let pending = c.args.pending.now in
+    let s = session_of m db pending in
+    let made = or_limit (line_step w s (seen_line c.args.line)) in
+    let files = d.seen c.args.disk.now in
+    let old = d.moments c.args.disk.now in
+    let now = d.moments c.args.disk.now in
+    let quiet : IsQuiet made (Ok c.new-in-VerifyChanges.result) db pending files = subst (λ (line : Line). IsQuiet (or_limit (line_step w s (seen_line line))) (Ok c.new-in-VerifyChanges.result) db pending files) (sym c.in-VerifyChanges.is) (skip_quiet m db pending files (Ok c.new-in-VerifyChanges.result) keeps c.new-in-VerifyChanges.ensures.bytes) in
+    quiet_told s made (Ok c.new-in-VerifyChanges.result) db pending files old now refl (kept_leaves db m (d.seen c.args.disk.now) old keeps synced) quiet

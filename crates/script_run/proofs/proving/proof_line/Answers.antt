@@ -1,4 +1,4 @@
-use Rattle.std.proofs.Common.{◌≡◌, List, ℕ, Option, Some, None, option_map, sym, ap, ◌∙◌, subst}
+use Rattle.std.proofs.Common.{◌≡◌, Option, Some, option_map, sym, ap, ◌∙◌, subst}
 use Rattle.trie_model.specs.Maps.{Map}
 use Rattle.proof_model.specs.Proofs.{point_proof}
 use Rattle.proof_model.specs.Wire.{point_form}

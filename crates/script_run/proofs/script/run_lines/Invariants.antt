@@ -7,7 +7,7 @@ use Rattle.run_model.specs.Outside.{disk_seen}
 use Rattle.batch_text.specs.Stream.{EndHolds}
 use Rattle.mdb_journal.specs.Moves.{AreSynced}
 use Rattle.mdb_core.specs.Stores.{Keeps, is_failed}
-use Rattle.script_run.specs.Steps.{IsJustOpened}
+use Rattle.store_opening.specs.Opening.{IsJustOpened}
 use Rattle.script_run.proofs.LineCauses.{FitsAlike}
 use Rattle.script_run.proofs.ScriptSoFar.{SoFar}
 use Rattle.script_run.proofs.script.run_lines.Given as goal

@@ -1,7 +1,6 @@
-use Rattle.std.proofs.Common.{◌≡◌, Some, subst}
+use Rattle.std.proofs.Common.{◌≡◌, subst}
 use Rattle.std.specs.FinMap as map_of
 use Rattle.std.specs.Prelude.{option_map, IfSome}
-use Rattle.trie_model.specs.Maps.{Map}
 use Rattle.view_model.specs.Maps.{parent_map}
 use Rattle.session_model.specs.Session.{view_at}
 use Rattle.batch_text.specs.SeenLine.{seen_place}

@@ -7,7 +7,8 @@ use Rattle.view_model.specs.Maps.{parent_map}
 use Rattle.session_model.specs.Session.{view, or_limit}
 use Rattle.mdb_core.specs.Stores.{DbState, root_at}
 use Rattle.mdb_core.specs.Proposals.{Makes, MakeFails}
-use Rattle.script_run.specs.Steps.{IsQuiet, holding_of, session_of}
+use Rattle.store_opening.specs.Opening.{holding_of}
+use Rattle.script_run.specs.Steps.{IsQuiet, session_of}
 use Rattle.script_run.proofs.Views.{view_made, not_made}
 use Rattle.script_run.proofs.viewing.propose.Goals as goal
 
