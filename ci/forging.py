@@ -1,25 +1,33 @@
-"""Forged proofs, for ci/proofs: true ones that are changed, those of keys in ten ways and those of ranges in ten.
+"""Forged proofs, for ci/proofs and ci/changes: true ones that are changed, those of keys, of ranges and of changes in ten
+ways each.
 
 Each way is a function of a case. It gives the changed proof, or its bytes, or None where the case has nothing to change,
-and may change what the proof is told for.
+and may change what the proof is told for. A change proof is told for a local map, too.
 """
 import random
 from collections import Counter
 from dataclasses import replace
 
-from plain import root_of, tokens_of, value_digest
-from plain_proofs import Node, answer, nodes_of, path_to, prove, prove_range, range_answer, reached, read, read_range, spelled, spelled_range
-from proof_lines import point, ranged
-from random_maps import random_counts, random_keys, random_map, random_range
+from plain import laid, root_of, tokens_of, value_digest
+from plain_proofs import (
+    Node, answer, change_answer, nodes_of, pairs_in, path_to, prove, prove_changes, prove_range, range_answer, reached, read,
+    read_changes, read_range, spelled, spelled_changes, spelled_range,
+)
+from proof_lines import changing, point, ranged
+from random_maps import random_counts, random_keys, random_map, random_neighbour, random_range
 
 
 class Case:
     """A map by chance."""
 
-    def __init__(self, rng):
+    def __init__(self, rng, at_least=((b"k", b"v"),)):
         self.rng, self.width = rng, rng.choice((1, 2, 4, 4, 8))
-        self.pairs = random_map(rng) or {b"k": b"v"}
+        self.pairs = random_map(rng) or dict(at_least)
         self.nodes, self.root = nodes_of(self.pairs, self.width), root_of(self.pairs, self.width)
+
+    def is_forged(self, some):
+        """Whether bytes are not those of the true proof."""
+        return some != self.spelled(self.true())
 
     def flipped(self, some):
         bit = self.rng.randrange(8 * len(some))
@@ -151,7 +159,7 @@ def proof_of_another_key(case):
 
 
 def a_byte_changed(case):
-    some = spelled(case.proof, case.width)
+    some = case.spelled(case.proof)
     return case.rng.choice([case.flipped(some), case.flipped(some), some[: case.rng.randrange(len(some))], some + b"\0"])
 
 
@@ -192,10 +200,7 @@ class RangeCase(Case):
     def is_true(self, some):
         """Whether the pairs are all that the map has up to where they tell."""
         proof = read_range(some, self.width)
-        return proof.pairs == self.inside(reached(self.asked, proof.cut, proof.pairs))
-
-    def inside(self, asked):
-        return tuple(it for it in sorted(self.pairs.items()) if asked.holds(it[0]))
+        return proof.pairs == pairs_in(self.pairs, reached(self.asked, proof.cut, proof.pairs))
 
     def path(self, bound):
         return path_to(self.nodes, bound, self.width)
@@ -255,7 +260,7 @@ def reach_moved(case):
     if case.rng.random() < 0.4:
         case.asked = random_range(case.rng, case.pairs)
         return case.proof
-    pairs = case.inside(case.asked)
+    pairs = pairs_in(case.pairs, case.asked)
     front = pairs[: case.rng.randrange(len(pairs) + 1)]
     end = case.path(front[-1][0]) if front and case.rng.random() < 0.6 else case.proof.end
     return replace(case.proof, cut=case.rng.random() < 0.8, pairs=front, end=end)
@@ -303,26 +308,141 @@ RANGE_WAYS = [
 ]
 
 
+class ChangeCase(Case):
+    """The true proof of what changed in a range from a former map to the map, all of it or the first changes. It is checked
+    by one who has a local map, which is the former one."""
+
+    def __init__(self, rng):
+        super().__init__(rng, at_least=())
+        self.former = self.local = random_neighbour(rng, self.pairs)
+        self.asked, self.counts = random_range(rng, {**self.former, **self.pairs}), random_counts(rng)
+        self.proof = self.true()
+
+    def true(self):
+        return prove_changes(self.former, self.pairs, self.asked, *self.counts, self.width)
+
+    def is_forged(self, some):
+        return self.local != self.former or super().is_forged(some)
+
+    def spelled(self, proof):
+        return spelled_changes(proof, self.width)
+
+    def line(self, some):
+        return changing(self.root, self.asked, some)
+
+    def answer(self, some):
+        return change_answer(self.root, self.asked, self.local, some, self.width)
+
+    def is_true(self, some):
+        """Whether the changes lead the local map to the map, up to where they tell."""
+        proof = read_changes(some, self.width)
+        bounds = reached(self.asked, proof.cut, proof.changes)
+        return pairs_in(laid(self.local, dict(proof.changes)), bounds) == pairs_in(self.pairs, bounds)
+
+    def with_change(self, wanted):
+        """The proof with one of its changes in another form: what is wanted of its key and its value, None for no change."""
+        changes = list(self.proof.changes)
+        if not changes:
+            return None
+        at = self.rng.randrange(len(changes))
+        changes[at : at + 1] = wanted(*changes[at])
+        return replace(self.proof, changes=tuple(changes))
+
+
+# Ways to forge a proof of changes.
+
+
+def an_idle_change_added(case):
+    """What the local map has at a key already, mostly in its place among the others."""
+    listed = {key for key, _ in case.proof.changes}
+    keys = [key for key in (*case.local, *random_keys(case.rng, case.local)) if key not in listed]
+    key = case.rng.choice(keys or [b"new"])
+    changes = [*case.proof.changes, (key, case.local.get(key))]
+    in_order = sorted(changes, key=lambda it: it[0])
+    return replace(case.proof, changes=tuple(in_order if case.rng.random() < 0.9 else changes))
+
+
+def a_change_left_out(case):
+    return case.with_change(lambda key, value: [])
+
+
+def a_change_undone(case):
+    """A former value is put again, or the key is deleted again."""
+    return case.with_change(lambda key, value: [(key, case.local.get(key))])
+
+
+def a_new_value_changed(case):
+    """Another value, one that is a digest of 32 bytes among them, or none; or one in the place of a deletion."""
+
+    def others(value):
+        if value is None:
+            return [b"", b"forged", bytes(40)]
+        return [None, b"forged", value_digest(value), value[:-1], case.flipped(value) if value else b"\0"]
+
+    return case.with_change(lambda key, value: [(key, case.rng.choice(others(value)))])
+
+
+def another_former_map(case):
+    """The local map is another one: one that differs a little, the later map already, or that of no pairs."""
+    changed = {**case.former, case.rng.choice(random_keys(case.rng, case.former)): case.rng.randbytes(3)}
+    case.local = case.rng.choice([changed, changed, random_neighbour(case.rng, case.former), case.pairs, {}])
+    return case.proof
+
+
+def a_node_dropped(case):
+    return with_a_node(case, lambda node: [])
+
+
+def a_node_altered(case):
+    return with_a_node(case, lambda node: [changed_node(case, node)])
+
+
+def with_a_node(case, wanted):
+    """The proof with one node of a path in another form."""
+    names = [it for it in ("start", "end") if getattr(case.proof, it)]
+    if not names:
+        return None
+    name = case.rng.choice(names)
+    path = list(getattr(case.proof, name))
+    at = case.rng.randrange(len(path))
+    path[at : at + 1] = wanted(path[at])
+    return replace(case.proof, **{name: tuple(path)})
+
+
+CHANGE_WAYS = [
+    an_idle_change_added,
+    a_change_left_out,
+    a_change_undone,
+    a_new_value_changed,
+    another_former_map,
+    cut_set,
+    cut_cleared,
+    a_node_dropped,
+    a_node_altered,
+    a_byte_changed,
+]
+
+
 # Many of them.
 
-CAUSES = ("bytes at", "unsorted", "outside", "path order", "paths differ", "root differs")
-FORMS = {"point": (PointCase, POINT_WAYS), "range": (RangeCase, RANGE_WAYS)}
+CAUSES = ("bytes at", "unsorted", "outside", "path order", "paths differ", "idle", "root differs")
+FORMS = {"point": (PointCase, POINT_WAYS), "range": (RangeCase, RANGE_WAYS), "changes": (ChangeCase, CHANGE_WAYS)}
 
 
 def forged(rng, make, way):
-    """A forged proof made in this way: the case, and the bytes, which are not those of the true proof."""
+    """A forged proof made in this way: the case, and the bytes, which are not those of the true proof of what is told."""
     while True:
         case = make(rng)
         found = way(case)
         if found is None:
             continue
         some = found if isinstance(found, bytes) else case.spelled(found)
-        if some != case.spelled(case.true()):
+        if case.is_forged(some):
             return case, some
 
 
 def judged(form, seed, count):
-    """So many forged proofs, as line, width, whether it is accepted, and what is told; and how often each way ended how.
+    """So many forged proofs, as case, line, whether it is accepted, and what is told; and how often each way ended how.
 
     Asserts of the plain check that none that is accepted is false.
     """
@@ -334,6 +454,6 @@ def judged(form, seed, count):
         accepted, what = case.answer(some)
         line = case.line(some)
         assert not accepted or case.is_true(some), (way.__name__, case.pairs, line)
-        told.append((line, case.width, accepted, what))
+        told.append((case, line, accepted, what))
         tally[way.__name__, "accepted" if accepted else next(it for it in CAUSES if what.startswith(it))] += 1
     return told, tally

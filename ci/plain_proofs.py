@@ -136,6 +136,11 @@ def prove(pairs, key, width=4, nodes=None):
     return PointProof(pairs.get(key), path_in(nodes, tokens_of(key, width)))
 
 
+def pairs_in(pairs, bounds):
+    """The pairs that a map has in a range, in the order of their keys."""
+    return tuple(it for it in sorted(pairs.items()) if bounds.holds(it[0]))
+
+
 def taken(pairs, count, size):
     """As many of the pairs, or of the changes, as a count and a number of bytes allow, but one at least."""
     used = 0
@@ -159,7 +164,7 @@ def path_to(nodes, bound, width):
 def prove_range(pairs, asked, count, size, width=4, nodes=None):
     """The proof of a range of a map, in which so many pairs of so many bytes may be listed."""
     nodes = nodes_of(pairs, width) if nodes is None else nodes
-    inside = tuple(it for it in sorted(pairs.items()) if asked.holds(it[0]))
+    inside = pairs_in(pairs, asked)
     some = taken(inside, count, size)
     cut = some != inside
     bounds = reached(asked, cut, some)
@@ -172,9 +177,11 @@ def changed(former, later, asked=Range()):
     return tuple((key, later.get(key)) for key in sorted(keys))
 
 
-def prove_changes(former, later, asked, count, size, width=4):
-    """The proof of what changed in a range from one map to another, in which so many changes of so many bytes may be listed."""
-    nodes, inside = nodes_of(later, width), changed(former, later, asked)
+def prove_changes(former, later, asked, count, size, width=4, nodes=None):
+    """The proof of what changed in a range from one map to another, in which so many changes of so many bytes may be listed.
+    The nodes are those of the later one."""
+    nodes = nodes_of(later, width) if nodes is None else nodes
+    inside = changed(former, later, asked)
     some = taken(inside, count, size)
     cut = some != inside
     bounds = reached(asked, cut, some)
@@ -376,22 +383,37 @@ class Stub:
 
 @dataclass(frozen=True)
 class Claim:
-    """A proof as it is checked, whatever its form: pairs that are to be all that a map has in a range, and two paths."""
+    """A proof as it is checked, whatever its form: the keys of its entries, the range up to where they tell, the pairs that
+    are to be all that a map has there, two paths, and the place of the first entry that changes nothing, or None."""
 
+    keys: tuple
     reached: Range
     pairs: tuple
     start: tuple
     end: tuple
+    idle: "int | None" = None
+
+
+def keys_of(entries):
+    return tuple(key for key, _ in entries)
 
 
 def point_claim(key, proof):
     """A proof of a key as one of the range from it to it, with one path."""
     pairs = () if proof.value is None else ((key, proof.value),)
-    return Claim(Range(key, key), pairs, proof.path, ())
+    return Claim(keys_of(pairs), Range(key, key), pairs, proof.path, ())
 
 
 def range_claim(asked, proof):
-    return Claim(reached(asked, proof.cut, proof.pairs), proof.pairs, proof.start, proof.end)
+    return Claim(keys_of(proof.pairs), reached(asked, proof.cut, proof.pairs), proof.pairs, proof.start, proof.end)
+
+
+def change_claim(asked, local, proof):
+    """A change proof by one who has a local map: the pairs of this up to where the changes tell, once these are made. A
+    change is idle where the local map has at its key already what it makes of it."""
+    bounds, after = reached(asked, proof.cut, proof.changes), laid(local, dict(proof.changes))
+    idle = first_place(proof.changes, lambda it: local.get(it[0]) == it[1])
+    return Claim(keys_of(proof.changes), bounds, pairs_in(after, bounds), proof.start, proof.end, idle)
 
 
 def items_of(claim, width):
@@ -468,13 +490,14 @@ def refusal(root, asked, claim, width=4):
 
     The nodes of both paths are counted through, those of the start first.
     """
-    keys, shown, behind = [key for key, _ in claim.pairs], {it.key: it for it in claim.start}, len(claim.start)
+    shown, behind = {it.key: it for it in claim.start}, len(claim.start)
     places = [
-        ("unsorted", 0, first_break(keys, rises)),
-        ("outside", 0, first_place(keys, lambda it: not asked.holds(it))),
+        ("unsorted", 0, first_break(claim.keys, rises)),
+        ("outside", 0, first_place(claim.keys, lambda it: not asked.holds(it))),
         ("path order", 0, first_break(claim.start, extends)),
         ("path order", behind, first_break(claim.end, extends)),
         ("paths differ", behind, first_place(claim.end, lambda it: shown.get(it.key, it) != it)),
+        ("idle", 0, claim.idle),
     ]
     for cause, before, place in places:
         if place is not None:
@@ -501,23 +524,17 @@ def range_answer(root, asked, some, width=4):
     return told(claim, refusal(root, asked, claim, width))
 
 
-def change_claim(asked, local, proof):
-    """A change proof by one who has a local map: its pairs up to where the changes tell, once these are made."""
-    bounds, after = reached(asked, proof.cut, proof.changes), laid(local, dict(proof.changes))
-    return Claim(bounds, tuple(it for it in sorted(after.items()) if bounds.holds(it[0])), proof.start, proof.end)
-
-
-def leads(root, asked, local, some, width=4):
-    """Whether bytes are a change proof that leads a local map to the maps with a root: its changes are in order and in the
-    range, each of them changes something, and what they make is accepted as a claim."""
-    proof = read_changes(some, width)
-    keys = [key for key, _ in proof.changes]
-    is_good = keys == sorted({*keys}) and all(map(asked.holds, keys)) and all(local.get(key) != value for key, value in proof.changes)
-    return is_good and refusal(root, asked, change_claim(asked, local, proof), width) is None
+def change_answer(root, asked, local, some, width=4):
+    """Whether bytes are accepted as a change proof by one who has a local map, and what is told."""
+    try:
+        claim = change_claim(asked, local, read_changes(some, width))
+    except Wrong as fault:
+        return False, f"bytes at {fault.args[1]}"
+    return told(claim, refusal(root, asked, claim, width))
 
 
 def told(claim, cause):
-    return cause is None, cause or f"ok {len(claim.pairs)}"
+    return cause is None, cause or f"ok {len(claim.keys)}"
 
 
 # Proofs that are written out by hand.
@@ -547,9 +564,9 @@ WORKED = [
 ]
 
 # The pairs of NEAR, and the path of 0a and of all keys that it begins: the node above both keys, and that of 0a.
-PAIR, OTHER, UNLIKE = "01 0a 01 61", "01 0b 01 62", "01 0a 01 63"
+PAIR, OTHER = "01 0a 01 61", "01 0b 01 62"
 ABOVE, BELOW = f"04 00 00 02 0a {A} 0b {B}", "08 0a 01 01 61 00"
-WAY = f"02 {ABOVE} {BELOW}"
+WAY, ABOVE_ALONE = f"02 {ABOVE} {BELOW}", f"01 {ABOVE}"
 
 # A map, its root, a start and an end, how many pairs and bytes are allowed, and the bytes of the proof, at factor 16.
 WORKED_RANGES = [
@@ -608,16 +625,53 @@ WORKED_CHANGES = [
     ({**NEAR, b"": b""}, {b"": b"\0"}, ("*", "*"), 2, 2, "01 02 01 02 00 01 01 00 01 0a 00 00 01 00 01 01 00 00"),
 ]
 
-# Of two such maps bytes that lead the former one to nothing with the root of the later: a change is left out, is not so, is
-# idle, is outside of the range, or is said to be the last, and two are swapped.
-MISLEADING = [
-    ({}, NEAR, ("*", "*"), "01 02 00 01 01 0a 01 01 61 00 00"),
-    ({}, NEAR, ("*", "*"), "01 02 00 02 01 0a 01 01 63 01 0b 01 01 62 00 00"),
-    (LEFT, NEAR, ("*", "*"), "01 02 00 02 01 0a 01 01 61 01 0b 01 01 62 00 00"),
-    (NEAR, NEAR, ("*", "*"), "01 02 00 01 01 0c 00 00 00"),
-    (LEFT, NEAR, ("*", "0a"), f"01 02 00 02 01 0a 01 01 61 01 0c 01 01 63 00 {WAY}"),
-    ({}, NEAR, ("*", "*"), f"01 02 00 01 01 0a 01 01 61 00 {WAY}"),
-    ({}, NEAR, ("*", "*"), "01 02 00 02 01 0b 01 01 62 01 0a 01 01 61 00 00"),
+# The map in which 0a has another value, its root, and that of NEAR with this value.
+UNLIKE_MAP, UNLIKE_ID = {b"\x0a": b"\x63"}, hashed("00 01 01 63 08 0a")
+UNLIKE_ROOT = hashed("02 0a", UNLIKE_ID, "0b", B, "00 04 00")
+PUT, PUT_OTHER, PUT_UNLIKE, DROP_NONE = "01 0a 01 01 61", "01 0b 01 01 62", "01 0a 01 01 63", "01 0c 00"
+DIFFERS = f"02 {ABOVE} 08 0a 01 01 63 00"
+
+# A local map and a later one, a start and an end, bytes that are no proof of the changes between them, and why.
+REFUSED_CHANGES = [
+    ({}, NEAR, ("*", "*"), f"01 02 00 02 {PUT_OTHER} {PUT} 00 00", "unsorted 1"),
+    ({}, NEAR, ("*", "*"), f"01 02 00 03 {PUT} {PUT_OTHER} {PUT_OTHER} 00 00", "unsorted 2"),
+    (LEFT, NEAR, ("*", "0a"), f"01 02 00 02 {PUT} {DROP_NONE} 00 {WAY}", "outside 1"),
+    ({}, NEAR, ("0b", "*"), f"01 02 00 02 {PUT} {PUT_OTHER} {WAY} 00", "outside 0"),
+    (LEFT, NEAR, ("0a", "0a"), f"01 02 00 01 {PUT} 02 {BELOW} {BELOW} 00", "path order 1"),
+    (LEFT, NEAR, ("0a", "0a"), f"01 02 00 01 {PUT} {WAY} 02 {BELOW} {ABOVE}", "path order 3"),
+    (LEFT, NEAR, ("0a", "0a"), f"01 02 00 01 {PUT} {WAY} {DIFFERS}", "paths differ 3"),
+    (LEFT, NEAR, ("0a", "0a"), f"01 02 00 01 {PUT} {WAY} 01 04 00 00 01 0a {A}", "paths differ 2"),
+    # a put of the value that is there, and a deletion of a key that is not
+    (LEFT, NEAR, ("*", "*"), f"01 02 00 02 {PUT} {PUT_OTHER} 00 00", "idle 1"),
+    (NEAR, NEAR, ("*", "*"), f"01 02 00 01 {PUT} 00 00", "idle 0"),
+    (NEAR, NEAR, ("*", "*"), f"01 02 00 01 {DROP_NONE} 00 00", "idle 0"),
+    (LEFT, NEAR, ("*", "*"), f"01 02 00 02 {PUT} {DROP_NONE} 00 00", "idle 1"),
+    # of several causes the first
+    (NEAR, NEAR, ("0b", "*"), f"01 02 00 02 {PUT_OTHER} {PUT} 00 00", "unsorted 1"),
+    (NEAR, NEAR, ("0b", "*"), f"01 02 00 01 {PUT} 02 {BELOW} {BELOW} 00", "outside 0"),
+    (NEAR, NEAR, ("0a", "0a"), f"01 02 00 01 {PUT} 02 {BELOW} {BELOW} 00", "path order 1"),
+    (NEAR, NEAR, ("0a", "0a"), f"01 02 00 01 {PUT} {WAY} {DIFFERS}", "paths differ 3"),
+    (NEAR, {}, ("*", "*"), f"01 02 00 02 {PUT_UNLIKE} {PUT_OTHER} 00 00", "idle 1"),
+    # a change is left out, is not so, or is said to be the last
+    ({}, NEAR, ("*", "*"), f"01 02 00 01 {PUT} 00 00", f"root differs {A} {NEAR_ROOT}"),
+    ({}, NEAR, ("*", "*"), f"01 02 00 02 {PUT_UNLIKE} {PUT_OTHER} 00 00", f"root differs {UNLIKE_ROOT} {NEAR_ROOT}"),
+    ({}, NEAR, ("*", "*"), "01 02 00 00 00 00", f"root differs {'00' * 32} {NEAR_ROOT}"),
+    ({}, NEAR, ("*", "*"), f"01 02 00 01 {PUT} 00 {WAY}", f"root differs {A} {NEAR_ROOT}"),
+    (NEAR, {}, ("*", "*"), "01 02 00 01 01 0a 00 00 00", f"root differs {B} {'00' * 32}"),
+    # a true proof by one who has another former map
+    (UNLIKE_MAP, NEAR, ("*", "*"), f"01 02 00 01 {PUT_OTHER} 00 00", f"root differs {UNLIKE_ROOT} {NEAR_ROOT}"),
+    # a list that is cut and has no change tells of the whole range
+    ({}, NEAR, ("*", "*"), "01 02 01 00 00 00", f"root differs {'00' * 32} {NEAR_ROOT}"),
+]
+
+# Such maps and bytes that are accepted, though no proof is made so: nodes that tell nothing are left out, a list is called cut
+# that is whole, and what the local map has outside of the range differs.
+OTHER_CHANGES = [
+    (LEFT, NEAR, ("0a", "0a"), f"01 02 00 01 {PUT} {ABOVE_ALONE} 00"),
+    (LEFT, NEAR, ("*", "*"), f"01 02 01 01 {PUT} 00 {WAY}"),
+    ({b"\x0a": b"\x61"}, NEAR, ("*", "*"), f"01 02 01 01 {PUT_OTHER} 00 00"),
+    (NEAR, NEAR, ("*", "*"), "01 02 01 00 00 00"),
+    (UNLIKE_MAP, NEAR, ("0b", "*"), f"01 02 00 01 {PUT_OTHER} {ABOVE_ALONE} 00"),
 ]
 
 # Bytes that are no proof at factor 16, with what is wrong and where.
@@ -747,10 +801,14 @@ def changes_as_written():
         asked, some = Range(*map(bound_of, bounds)), bytes.fromhex(text)
         proof = prove_changes(former, later, asked, count, size)
         assert spelled_changes(proof) == some and read_changes(some) == proof, (former, later, asked, spelled_changes(proof).hex())
-        assert leads(root_of(later), asked, former, some), (former, later, asked)
-    for former, later, bounds, text in MISLEADING:
-        asked, some = Range(*map(bound_of, bounds)), bytes.fromhex(text)
-        assert not leads(root_of(later), asked, former, some), (former, later, text)
+        assert change_answer(root_of(later), asked, former, some) == (True, f"ok {len(proof.changes)}"), (former, later, asked)
+    for former, later, bounds, text, cause in REFUSED_CHANGES:
+        told = change_answer(root_of(later), Range(*map(bound_of, bounds)), former, bytes.fromhex(text))
+        assert told == (False, cause), (former, later, bounds, text, told)
+    for former, later, bounds, text in OTHER_CHANGES:
+        some = bytes.fromhex(text)
+        told = change_answer(root_of(later), Range(*map(bound_of, bounds)), former, some)
+        assert told == (True, f"ok {len(read_changes(some).changes)}"), (former, later, bounds, text, told)
     for text, *fault in CHANGE_FAULTS:
         told = is_read(bytes.fromhex(text), reads=read_changes)
         assert told == tuple(fault), (text, fault, told)
@@ -796,7 +854,8 @@ def proves_changes(pairs, width):
                 proof = prove_changes(former, later, asked, count, size, width)
                 some = spelled_changes(proof, width)
                 assert read_changes(some, width) == proof and proof.cut == (len(proof.changes) < inside), (asked, width)
-                assert leads(root, asked, former, some, width), (former, later, asked, width)
+                told = change_answer(root, asked, former, some, width)
+                assert told == (True, f"ok {len(proof.changes)}"), (former, later, asked, width, told)
 
 
 if __name__ == "__main__":

@@ -1,4 +1,4 @@
-"""Maps by chance, and keys and ranges to ask of them, for the scripts beside this one."""
+"""Maps by chance, maps that differ from them, and keys and ranges to ask of them, for the scripts beside this one."""
 from plain_proofs import Range
 
 LONGEST = 257
@@ -8,7 +8,11 @@ def random_map(rng):
     """A map whose keys are short, so that many begin others, and whose values are about as long as a digest."""
     letters = rng.choice([(0, 1, 0x10, 0xFF), tuple(range(256)), (0x12, 0x13)])
     count = rng.choice((0, 1, 2, 3, 5, 8, 20, 40))
-    return {bytes(rng.choices(letters, k=rng.randrange(5))): rng.randbytes(rng.choice((0, 1, 5, 31, 32, 33))) for _ in range(count)}
+    return {bytes(rng.choices(letters, k=rng.randrange(5))): random_value(rng) for _ in range(count)}
+
+
+def random_value(rng):
+    return rng.randbytes(rng.choice((0, 1, 5, 31, 32, 33)))
 
 
 def random_keys(rng, pairs):
@@ -16,6 +20,15 @@ def random_keys(rng, pairs):
     keys = rng.sample(sorted(pairs), min(6, len(pairs)))
     near = [it[: rng.randrange(len(it) + 1)] + rng.randbytes(rng.randrange(2)) for it in keys]
     return [*keys, *near, rng.randbytes(2), b""]
+
+
+def random_neighbour(rng, pairs):
+    """A map that differs from another at few keys or at many: it lacks some, has others besides, and has other values."""
+    share = rng.choice((0, 0.1, 0.3, 0.8))
+    kept = {key: value for key, value in pairs.items() if rng.random() >= share / 2}
+    other = {key: random_value(rng) for key in kept if rng.random() < share}
+    more = {key: random_value(rng) for key in rng.sample(random_keys(rng, pairs), rng.randrange(3))}
+    return {**kept, **other, **more}
 
 
 def random_bound(rng, pairs):

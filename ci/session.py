@@ -100,7 +100,7 @@ class Session:
         # the maps that are held, the present one first
         self.maps, self.width = [pairs], width
         self.path, self.views, self.pending = [], [], {}
-        self.printed = []
+        self.printed, self.roots = [], {}
 
     @property
     def pairs(self):
@@ -157,8 +157,15 @@ class Session:
     def tell(self, *words):
         self.printed.append(b" ".join(words) + b"\n")
 
+    def root_of(self, pairs):
+        """The root of a map. No map is changed once it is made, so its root is made once."""
+        if id(pairs) not in self.roots:
+            # the map is kept too, so that no other one gets its ID
+            self.roots[id(pairs)] = pairs, root_of(pairs, self.width)
+        return self.roots[id(pairs)][1]
+
     def root(self, pairs):
-        return root_of(pairs, self.width).hex().encode()
+        return self.root_of(pairs).hex().encode()
 
     # Lines.
 
@@ -231,18 +238,18 @@ class Session:
         if isinstance(root, int):
             return self.maps[root] if root < len(self.maps) else None
         root = ZERO if root == b"empty" else root
-        alike = (it for it in self.maps if root_of(it, self.width) == root)
+        alike = (it for it in self.maps if self.root_of(it) == root)
         return next(alike, {} if root == ZERO else None)
 
     def from_root_on(self, maps, root):
         """The latest of some maps with a root, and those before it."""
-        return next((maps[place:] for place, it in enumerate(maps) if root_of(it, self.width) == root), [])
+        return next((maps[place:] for place, it in enumerate(maps) if self.root_of(it) == root), [])
 
     def meant(self, root):
         """The root that a ROOT means, or None."""
         place = {b"now": 0}.get(root, root)
         if isinstance(place, int):
-            return root_of(self.maps[place], self.width) if place < len(self.maps) else None
+            return self.root_of(self.maps[place]) if place < len(self.maps) else None
         return ZERO if root == b"empty" else root
 
     def between(self, former, later):

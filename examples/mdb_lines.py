@@ -20,12 +20,21 @@ def bytes_of(field):
     return b"" if field == "-" else bytes.fromhex(field)
 
 
-def put_line(key, value):
+def key_word(key):
     if len(key) > KEY:
         raise Wrong(f"the key {key[:40]!r}.. has {len(key)} bytes, and {KEY} are allowed")
+    return word(key)
+
+
+def del_line(key):
+    return f"del {key_word(key)}\n"
+
+
+def put_line(key, value):
+    front = f"put {key_word(key)}"
     if len(value) > VALUE:
         raise Wrong(f"the value of {key[:40]!r} has {len(value)} bytes, and {VALUE} are allowed: put its hash")
-    return f"put {word(key)} {word(value)}\n"
+    return f"{front} {word(value)}\n"
 
 
 def lines_of(pairs):
