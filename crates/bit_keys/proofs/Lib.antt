@@ -1,9 +1,9 @@
-pub mod Cuts
+pub mod CutBytes
 pub mod KeyFacts
 pub mod Order
 pub mod Padding
-pub mod Parts
-pub mod Shared
+pub mod FilledBytes
+pub mod SharedBits
 pub mod Slots
 pub mod Tokens
 pub mod Windows

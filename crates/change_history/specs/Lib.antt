@@ -1,4 +1,4 @@
 pub mod Histories
-pub mod Nets
-pub mod Merged
-pub mod Told
+pub mod NetChanges
+pub mod MergedDeltas
+pub mod ToldChanges

@@ -2,7 +2,7 @@
 ghost use Rattle.std.specs.Prelude.{◌≡◌, IfOk};
 ghost use Rattle.std.specs.List.{filter};
 ghost use Rattle.history_model.specs.Changes.{lies_in};
-ghost use Rattle.change_history.specs.Nets.{nets_of};
+ghost use Rattle.change_history.specs.NetChanges.{nets_of};
 
 use crate::{Delta, Net};
 use bit_keys::Range;

@@ -1,7 +1,7 @@
 // The deltas of two runs of commits as those of one.
 ghost use Rattle.std.specs.Prelude.{◌≡◌, ◌<◌, ◌≤◌, ◌+◌, length, option_map, IfOk, IfSome};
-ghost use Rattle.change_history.specs.Nets.{net_of, nets_of, paired, turn};
-ghost use Rattle.change_history.specs.Merged.{IsMerged, added_of, turn_of};
+ghost use Rattle.change_history.specs.NetChanges.{net_of, nets_of, paired, turn};
+ghost use Rattle.change_history.specs.MergedDeltas.{IsMerged, added_of, turn_of};
 
 use crate::Net;
 use mdb_base::NoMemory;

@@ -2,7 +2,7 @@
 ghost use Rattle.std.specs.Prelude.{◌≡◌, ◌<◌, ◌^◌, ◌++◌, IfOk, option_map};
 ghost use Rattle.history_model.specs.Changes.{same_value, change_of, change_size};
 ghost use Rattle.change_history.specs.Histories.{undo_of};
-ghost use Rattle.change_history.specs.Nets.{net_of};
+ghost use Rattle.change_history.specs.NetChanges.{net_of};
 
 use crate::Delta;
 use crate::delta::value_len;

@@ -1,6 +1,6 @@
 // What changed between two maps of a history.
 ghost use Rattle.std.specs.Prelude.{◌≡◌, ◌≤◌, ◌<◌, ◌+◌, length, IfOk};
-ghost use Rattle.change_history.specs.Nets.{nets_of, IsSum};
+ghost use Rattle.change_history.specs.NetChanges.{nets_of, IsSum};
 
 use crate::listing::list;
 use crate::merging::merge;

@@ -6,8 +6,8 @@ ghost use Rattle.proof_model.specs.Refusals.{same_bytes};
 ghost use Rattle.history_model.specs.Changes.{change_of};
 ghost use Rattle.history_model.specs.Between.{changes_between};
 ghost use Rattle.change_history.specs.Histories.{Recalls, held_by, roots, from_root};
-ghost use Rattle.change_history.specs.Nets.{nets_of};
-ghost use Rattle.change_history.specs.Told.{fits, IsTaken, AreListed, Tells, TellsEnd, TellsStart};
+ghost use Rattle.change_history.specs.NetChanges.{nets_of};
+ghost use Rattle.change_history.specs.ToldChanges.{fits, IsTaken, AreListed, Tells, TellsEnd, TellsStart};
 
 use crate::{History, HistoryFault, Net};
 use bit_keys::{Id, Range};

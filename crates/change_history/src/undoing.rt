@@ -7,8 +7,8 @@ ghost use Rattle.batch_model.specs.Batch.{after_batch};
 ghost use Rattle.proof_model.specs.Refusals.{same_bytes};
 ghost use Rattle.history_model.specs.Held.{until_root};
 ghost use Rattle.change_history.specs.Histories.{Recalls, held_by, roots, undo_of};
-ghost use Rattle.change_history.specs.Nets.{nets_of, map_at};
-ghost use Rattle.change_history.specs.Told.{TellsEnd, LeadsBack};
+ghost use Rattle.change_history.specs.NetChanges.{nets_of, map_at};
+ghost use Rattle.change_history.specs.ToldChanges.{TellsEnd, LeadsBack};
 
 use crate::{History, HistoryFault, Net};
 use bit_keys::{Id, Range};

@@ -17,12 +17,12 @@ use Rattle.batch_model.specs.Batch.{Change, put_or_removed, after_batch}
 use Rattle.proof_model.specs.Claims.{pair_of}
 use Rattle.proof_model.specs.Proofs.{Pair}
 use Rattle.proof_model.specs.RangeProofs.{pairs_in}
-use Rattle.proof_model.specs.Sound.{AreSorted}
+use Rattle.proof_model.specs.SoundProofs.{AreSorted}
 use Rattle.proof_model.proofs.ChangedMaps.{pairs_in-of, pairs_in-in, get-at, get-beside, At, here, apart, at_or_apart}
 use Rattle.proof_model.proofs.SortedPairs.{same_pairs, head_below}
 use Rattle.proof_model.proofs.TruePoints.{turned}
 use Rattle.proof_model.proofs.TrueRanges.{pairs_in-AreSorted}
-use Rattle.change_proof.specs.Laying.{put_of, with_change, laid}
+use Rattle.change_proof.specs.LaidChanges.{put_of, with_change, laid}
 
 abbrev Above : List ℕ → List Pair → Type 0
 Above k es = AllByRecursion (λ (f : Pair). bytes_cmp k f.0 ≡ Less) es

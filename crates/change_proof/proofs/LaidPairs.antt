@@ -16,9 +16,9 @@ use Rattle.history_model.specs.Changes.{same_value}
 use Rattle.proof_model.specs.Claims.{pair_of}
 use Rattle.proof_model.specs.Proofs.{Pair}
 use Rattle.proof_model.specs.Refusals.{first_place, same_bytes}
-use Rattle.proof_model.specs.Sound.{AreSorted}
+use Rattle.proof_model.specs.SoundProofs.{AreSorted}
 use Rattle.proof_model.proofs.TruePoints.{turned}
-use Rattle.change_proof.specs.Laying.{put_of, with_change, laid, is_idle_in, below, from, past, value_in_front}
+use Rattle.change_proof.specs.LaidChanges.{put_of, with_change, laid, is_idle_in, below, from, past, value_in_front}
 
 -- ---- parts
 pub below-from : (k : List ℕ) (es : List Pair) → below k es ++ from k es ≡ es

@@ -1,7 +1,7 @@
 pub mod ChangedPairs
 pub mod LaidPairs
 pub mod LocalPairs
-pub mod Late
-pub mod Ends
-pub mod Early
-pub mod Verified
+pub mod CheckedRange
+pub mod LastChange
+pub mod EarlyReasons
+pub mod AcceptedProofs

@@ -16,10 +16,10 @@ use Rattle.range_model.specs.Ranges.{Range, holds}
 use Rattle.trie_items.specs.Sources.{is_ahead, next_key, map_keys}
 use Rattle.proof_model.specs.Proofs.{Pair}
 use Rattle.proof_model.specs.RangeProofs.{pairs_in}
-use Rattle.proof_model.specs.Sound.{AreSorted}
+use Rattle.proof_model.specs.SoundProofs.{AreSorted}
 use Rattle.proof_model.proofs.TrueClaims.{le-through}
 use Rattle.proof_model.proofs.TruePoints.{turned}
-use Rattle.range_proof.specs.Taking.{in_range, least_of}
+use Rattle.range_proof.specs.TakenKeys.{in_range, least_of}
 use Rattle.range_proof.proofs.KeysInRange.{first_key, first_of_map, next_of_map, value_of_map}
 
 -- ---- of a map that is told

@@ -1,2 +1,2 @@
-pub mod Laying
-pub mod Told
+pub mod LaidChanges
+pub mod CheckAnswers

@@ -3,9 +3,9 @@ ghost use Rattle.std.specs.Option.{option_copied};
 ghost use Rattle.batch_model.specs.Batch.{AreRising};
 ghost use Rattle.history_model.specs.Changes.{same_value as same_value_of};
 ghost use Rattle.proof_model.specs.Refusals.{first_place};
-ghost use Rattle.proof_model.specs.Sound.{AreSorted};
+ghost use Rattle.proof_model.specs.SoundProofs.{AreSorted};
 ghost use Rattle.proof_check.specs.Claims.{pair_of};
-ghost use Rattle.change_proof.specs.Laying.{laid, is_idle_in, put_of, below, from as from_key, past, value_in_front};
+ghost use Rattle.change_proof.specs.LaidChanges.{laid, is_idle_in, put_of, below, from as from_key, past, value_in_front};
 
 use bit_keys::NoMemory;
 use mdb_base::Change;

@@ -4,7 +4,7 @@ ghost use Rattle.trie_model.specs.Maps.{Map};
 ghost use Rattle.range_model.specs.Ranges.{holds};
 ghost use Rattle.trie_items.specs.Sources.{Answers};
 ghost use Rattle.proof_model.specs.RangeProofs.{pairs_in};
-ghost use Rattle.proof_model.specs.Sound.{AreSorted};
+ghost use Rattle.proof_model.specs.SoundProofs.{AreSorted};
 
 use bit_keys::Range;
 use proof_check::Pair;

@@ -12,9 +12,9 @@ ghost use Rattle.proof_model.specs.ChangeProofs.{changes_reach, change_proof, ch
 ghost use Rattle.proof_model.specs.Paths.{IsProofNode};
 ghost use Rattle.proof_model.specs.RangeProofs.{pairs_in};
 ghost use Rattle.proof_model.specs.Refusals.{path_refusal};
-ghost use Rattle.proof_check.specs.Told.{Tells, Costs};
-ghost use Rattle.change_proof.specs.Told.{TellsOr, TellsEarly, early_refusal, late_refusal, reached_claim, source_answer};
-ghost use Rattle.range_proof.specs.Reaching.{or_asked};
+ghost use Rattle.proof_check.specs.CheckResults.{Tells, Costs};
+ghost use Rattle.change_proof.specs.CheckAnswers.{TellsOr, TellsEarly, early_refusal, late_refusal, reached_claim, source_answer};
+ghost use Rattle.range_proof.specs.ReachedRanges.{or_asked};
 
 use crate::laying::{first_idle, lay};
 use crate::local::pairs_of;

@@ -9,13 +9,13 @@ use Rattle.trie_model.specs.Hashing.{hashed_string}
 use Rattle.trie_model.specs.StoredNode.{StoredChild}
 use Rattle.trie_model.specs.Table.{Row, node_id, hashed_child}
 use Rattle.node_codec.specs.declared.node.Child.{Child}
-use Rattle.node_codec.specs.Stored.{stored_children}
+use Rattle.node_codec.specs.StoredNodes.{stored_children}
 use Rattle.trie_items.specs.Children.{children_of}
 use Rattle.trie_items.specs.declared.child.ChildId.{ChildId}
 use Rattle.map_root.specs.declared.nodes.ClosedNode.{ClosedNode}
 use Rattle.map_root.specs.declared.nodes.OpenNode.{OpenNode}
 use Rattle.map_root.specs.PassState.{Unfinished}
-use Rattle.map_root.specs.Kept.{stored, hashed, open_node, above_of, kept_open, IsRow}
+use Rattle.map_root.specs.KeptNodes.{stored, hashed, open_node, above_of, kept_open, IsRow}
 
 -- ---- the sinks
 -- children that are kept whole are as they were

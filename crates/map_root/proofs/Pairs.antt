@@ -18,7 +18,7 @@ use Rattle.bit_keys.specs.declared.branch.Branch.{Branch}
 use Rattle.bit_keys.specs.declared.branch.Branch.TheVariants.{B2, B4, B16, B256}
 use Rattle.bit_keys.specs.Branch.{width_of}
 use Rattle.map_root.specs.declared.entry.Entry.{Entry}
-use Rattle.map_root.specs.Built.{Built, pair_items, AreWithin}
+use Rattle.map_root.specs.BuilderPairs.{Built, pair_items, AreWithin}
 use Rattle.trie_model.proofs.TableCounts.{same_count}
 use Rattle.map_root.proofs.EntryItems.{plain_entries}
 use Rattle.map_root.specs.Entries.{key_of, keys_of, items_of, pair_of, pairs_of, AreOfBytes, AreShortDigests, AreWhole}

@@ -13,7 +13,7 @@ use Rattle.map_root.specs.declared.nodes.ClosedNode.{ClosedNode}
 use Rattle.map_root.specs.declared.nodes.OpenNode.{OpenNode}
 use Rattle.map_root.specs.Entries.{keys_of, items_of, AreWhole}
 use Rattle.map_root.specs.PassState.{PassState, climb_from, lay, passed, AreNested}
-use Rattle.map_root.specs.Kept.{IsRow, Stands}
+use Rattle.map_root.specs.KeptNodes.{IsRow, Stands}
 use Rattle.map_root.specs.Hashes.{HashedAll, HashedAtMost, GrewAtMost}
 use Rattle.map_root.proofs.EntryItems.{plain_entries, rising_behind}
 use Rattle.map_root.proofs.PassSteps.{climb_grows, lay_grows}

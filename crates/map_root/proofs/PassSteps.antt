@@ -11,7 +11,7 @@ use Rattle.map_root.specs.declared.entry.Entry.{Entry}
 use Rattle.map_root.specs.declared.nodes.ClosedNode.{ClosedNode}
 use Rattle.map_root.specs.declared.nodes.OpenNode.{OpenNode}
 use Rattle.map_root.specs.PassState.{Unfinished, PassState, child_under, parent, climb, climb_from, open_at, settle, settle_at, meet, lay, AreNested, IsBelow}
-use Rattle.map_root.specs.Kept.{open_node, above_of, kept_open, IsRow, Stands, StandsNested}
+use Rattle.map_root.specs.KeptNodes.{open_node, above_of, kept_open, IsRow, Stands, StandsNested}
 use Rattle.map_root.specs.Hashes.{HashedAll, HashedAtMost, GrewAtMost}
 use Rattle.trie_model.proofs.MeetingKeys.{meeting}
 use Rattle.map_root.proofs.PassTable.{Climbed, climbed, settle-rows}

@@ -1,5 +1,5 @@
-pub mod Built
+pub mod BuilderPairs
 pub mod Entries
 pub mod PassState
-pub mod Kept
+pub mod KeptNodes
 pub mod Hashes

@@ -8,7 +8,7 @@ ghost use Rattle.trie_model.specs.Laws.{AreStored};
 ghost use Rattle.trie_model.specs.Maps.{Limits, Map, map_digests, map_items, root};
 ghost use Rattle.trie_model.specs.Table.{items_table, table};
 ghost use Rattle.bit_keys.specs.Branch.{width_of};
-ghost use Rattle.map_root.specs.Built.{pair_items, AreWithin};
+ghost use Rattle.map_root.specs.BuilderPairs.{pair_items, AreWithin};
 ghost use Rattle.map_root.specs.Hashes.{GrewAtMost};
 
 use crate::entry::Entry;
@@ -31,7 +31,7 @@ pub struct Builder {
 
 impl Model for Builder {
     ghost use Rattle.trie_model.specs.Bits.{IsRising};
-    ghost use Rattle.map_root.specs.Built.{Built};
+    ghost use Rattle.map_root.specs.BuilderPairs.{Built};
     ghost use Rattle.map_root.specs.Entries.{keys_of, pairs_of, AreOfBytes, AreShortDigests};
 
     ghost Value = { Built };

@@ -6,7 +6,7 @@ ghost use Rattle.trie_model.specs.Table.{Row, node_id as node_hash, items_table}
 ghost use Rattle.bit_keys.specs.Branch.{width_of};
 ghost use Rattle.map_root.specs.Entries.{keys_of, items_of, AreWhole};
 ghost use Rattle.map_root.specs.PassState.{PassState, Unfinished, child_under as child_at, parent as parent_of, climb_from, settle as settled, lay as laid, open_at, IsBelow};
-ghost use Rattle.map_root.specs.Kept.{open_node as seen, above_of, kept_open, IsRow, Stands, StandsNested};
+ghost use Rattle.map_root.specs.KeptNodes.{open_node as seen, above_of, kept_open, IsRow, Stands, StandsNested};
 ghost use Rattle.map_root.specs.Hashes.{HashedAll, HashedAtMost, GrewAtMost};
 
 use crate::entry::Entry;

@@ -1,9 +1,9 @@
 ghost use Rattle.std.specs.Prelude.{◌≡◌, ◌+◌, ◌≤◌, List, ◌∷◌, OnOk, OnErr, IfOk, reverse, length, drop, map};
 ghost use Rattle.trie_model.specs.StoredNode.{StoredChild};
 ghost use Rattle.trie_model.specs.Table.{Row, hashed_child, is_some, node_id as node_hash};
-ghost use Rattle.node_codec.specs.Stored.{stored_children};
+ghost use Rattle.node_codec.specs.StoredNodes.{stored_children};
 ghost use Rattle.trie_items.specs.Children.{children_of};
-ghost use Rattle.map_root.specs.Kept.{IsRow, stored, hashed};
+ghost use Rattle.map_root.specs.KeptNodes.{IsRow, stored, hashed};
 
 use crate::nodes::ClosedNode;
 use bit_keys::{Id, Key};

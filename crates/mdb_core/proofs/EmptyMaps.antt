@@ -9,7 +9,7 @@ use Rattle.history_model.specs.Held.{no_map}
 use Rattle.trie_items.specs.Sources.{AreAscending}
 use Rattle.mdb_core.specs.Stores.{DbState, AreDigests, keys_of}
 use Rattle.mdb_core.specs.MapKeys.{map_keys-AreAscending, map_keys-digests}
-use Rattle.mdb_core.specs.Tidy.{tidy, tidy-is}
+use Rattle.mdb_core.specs.TidyKeys.{tidy, tidy-is}
 use Rattle.mdb_core.specs.Spots.{IsSpotOf}
 use Rattle.mdb_core.specs.declared.spot.Spot.{Spot}
 use Rattle.mdb_core.specs.declared.spot.Spot.TheVariants.{Empty}

@@ -2,7 +2,7 @@
 use Rattle.std.proofs.Common.{◌≡◌, ℕ, List, sym, subst}
 use Rattle.trie_model.specs.Maps.{Map}
 use Rattle.change_history.specs.Histories.{Recalls, held_by, recalled, Remembers}
-use Rattle.change_history.proofs.Remembered.{held_recalled}
+use Rattle.change_history.proofs.ToldMaps.{held_recalled}
 use Rattle.mdb_core.specs.Stores.{DbState, held_maps}
 
 -- s is the store, as its parts are seen

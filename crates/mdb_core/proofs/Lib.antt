@@ -3,10 +3,10 @@ pub mod LastPuts
 pub mod TakenDigests
 pub mod LaidChanges
 pub mod CountedKeys
-pub mod KeptStores
+pub mod StoreFiles
 pub mod OpenedStores
 pub mod RootsByDigests
-pub mod StoresKept
+pub mod StoresAfterCalls
 pub mod Refusals
 pub mod BatchLookups
 pub mod NamedMaps
@@ -14,4 +14,4 @@ pub mod HeldMaps
 pub mod ShortKeys
 pub mod NextDigests
 pub mod EmptyMaps
-pub mod Altered
+pub mod AlteredKeys

@@ -10,10 +10,10 @@ use Rattle.batch_model.specs.Batch.{Change, after_batch}
 use Rattle.proof_model.specs.Refusals.{same_bytes}
 use Rattle.history_model.specs.Held.{no_map, until_root, with_root}
 use Rattle.change_history.specs.Histories.{CommitState, HistoryState, roots, Recalls, held_by, maps_behind, recalled, Remembers}
-use Rattle.change_history.specs.Told.{LeadsBack, TellsEnd}
+use Rattle.change_history.specs.ToldChanges.{LeadsBack, TellsEnd}
 use Rattle.change_history.specs.declared.fault.HistoryFault.{HistoryFault}
 use Rattle.change_history.specs.declared.fault.HistoryFault.TheVariants.{NoEnd}
-use Rattle.change_history.proofs.Remembered.{held_recalled}
+use Rattle.change_history.proofs.ToldMaps.{held_recalled}
 use Rattle.mdb_core.specs.Stores.{DbState, IsStore}
 use Rattle.mdb_core.specs.Places.{names_map}
 

@@ -5,11 +5,11 @@ use Rattle.disk_model.specs.Moments.{Moments, LeavesOnly}
 use Rattle.trie_model.specs.Maps.{Map, limits}
 use Rattle.store_model.specs.Journal.{Stands}
 use Rattle.value_store.specs.Values.{ValueState, Keeps as ValuesKeep}
-use Rattle.value_store.specs.Opens.{Opened as ValuesOpened}
+use Rattle.value_store.specs.StoreOpenings.{Opened as ValuesOpened}
 use Rattle.value_store.proofs.KeptMaps.{keeps_stands, keeps_same, opened_map}
 use Rattle.view_model.specs.Forest.{no_views}
 use Rattle.mdb_core.specs.Stores.{DbState, Keeps, is_failed}
-use Rattle.mdb_core.specs.Opens.{Opened}
+use Rattle.mdb_core.specs.StoreOpenings.{Opened}
 use Rattle.mdb_core.specs.declared.fault.DbFault.{DbFault}
 
 -- values that are the same keep the same files

@@ -12,7 +12,7 @@ use Rattle.view_model.proofs.Prefixes.{after_prefix, proper_parts}
 use Rattle.view_model.proofs.Commits.{next_is_told}
 use Rattle.view_model.proofs.DeadViews.{live_ahead, live_unless_refused}
 use Rattle.view_model.proofs.LiveViews.{alive, path_by_parent}
-use Rattle.view_stack.specs.Told.{fault_told, number_in, numbers}
+use Rattle.view_stack.specs.ViewAnswers.{fault_told, number_in, numbers}
 use Rattle.view_stack.specs.declared.state.ViewId.{ViewId}
 use Rattle.view_stack.specs.declared.fault.ViewFault.{ViewFault}
 use Rattle.mdb_core.specs.Stores.{DbState, is_failed}

@@ -8,7 +8,7 @@ use Rattle.view_model.specs.Maps.{view_map}
 use Rattle.proof_model.specs.Refusals.{same_bytes}
 use Rattle.history_model.specs.Held.{with_root}
 use Rattle.change_history.specs.Histories.{HistoryState, Remembers, roots}
-use Rattle.view_stack.specs.Told.{state_told}
+use Rattle.view_stack.specs.ViewAnswers.{state_told}
 use Rattle.mdb_core.specs.Stores.{DbState, held_maps, is_failed}
 use Rattle.mdb_core.specs.declared.store.At.{At}
 use Rattle.mdb_core.specs.declared.store.At.TheVariants.{Store, View, Root}

@@ -8,8 +8,8 @@ use Rattle.view_model.specs.Maps.{view_map}
 use Rattle.history_model.specs.Held.{no_map}
 use Rattle.node_table.specs.Pairs.{AreShort}
 use Rattle.mdb_core.specs.Stores.{DbState, keys_of}
-use Rattle.mdb_core.specs.Tidy.{tidy}
-use Rattle.mdb_core.specs.Proposed.{ProposalState, PastState}
+use Rattle.mdb_core.specs.TidyKeys.{tidy}
+use Rattle.mdb_core.specs.SpotParts.{ProposalState, PastState}
 use Rattle.mdb_core.specs.declared.spot.Spot.{Spot}
 use Rattle.mdb_core.specs.declared.spot.Spot.TheVariants.{Store, View, Past, Empty}
 

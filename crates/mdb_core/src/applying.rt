@@ -8,14 +8,14 @@ ghost use Rattle.trie_model.specs.Strings.{strings};
 ghost use Rattle.batch_model.specs.Batch.{after_batch};
 ghost use Rattle.history_model.specs.Held.{held};
 ghost use Rattle.store_model.specs.Journal.{Stands};
-ghost use Rattle.mdb_journal.specs.Moves.{AreSynced, OthersStay};
+ghost use Rattle.mdb_journal.specs.DiskMoves.{AreSynced, OthersStay};
 ghost use Rattle.mdb_journal.specs.Opening.{Untouched};
 ghost use Rattle.value_store.specs.Writes.{StandEither, MayAppend};
 ghost use Rattle.view_model.specs.Forest.{next_number};
 ghost use Rattle.view_model.specs.Calls.{directed, number_limit};
 ghost use Rattle.node_table.specs.Pairs.{AreShort};
 ghost use Rattle.mdb_core.specs.Stores.{Keeps, broken, held_maps, is_failed, keys_of};
-ghost use Rattle.mdb_core.specs.Applies.{Applies, ApplyFails, MayNumber};
+ghost use Rattle.mdb_core.specs.AppliedBatches.{Applies, ApplyFails, MayNumber};
 
 use crate::fault::told;
 use crate::recording::record_commit;

@@ -10,7 +10,7 @@ ghost use Rattle.store_model.specs.Journal.{Stands};
 ghost use Rattle.view_model.specs.Forest.{Live, state};
 ghost use Rattle.view_model.specs.Calls.{committed};
 ghost use Rattle.view_model.specs.Maps.{changes_of};
-ghost use Rattle.mdb_journal.specs.Moves.{AreSynced, OthersStay};
+ghost use Rattle.mdb_journal.specs.DiskMoves.{AreSynced, OthersStay};
 ghost use Rattle.mdb_journal.specs.Opening.{Untouched};
 ghost use Rattle.value_store.specs.Writes.{StandEither};
 ghost use Rattle.node_table.specs.Pairs.{AreShort};

@@ -5,7 +5,7 @@ ghost use Rattle.history_model.specs.Held.{with_root};
 ghost use Rattle.change_history.specs.Histories.{Remembers};
 ghost use Rattle.mdb_core.specs.Stores.{held_maps};
 ghost use Rattle.mdb_core.specs.Places.{GetFails, MayRead, Speaks, map_at, names_map};
-ghost use Rattle.mdb_core.specs.Found.{IsThere, IsUnnamed, map_found};
+ghost use Rattle.mdb_core.specs.FoundMaps.{IsThere, IsUnnamed, map_found};
 
 use crate::{At, Db, DbFault, ViewId};
 use bit_keys::Id;

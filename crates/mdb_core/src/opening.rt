@@ -6,14 +6,14 @@ ghost use Rattle.disk_model.specs.Words.{TellsContents, TellsImages};
 ghost use Rattle.trie_model.specs.Maps.{Map, limits, map_digests};
 ghost use Rattle.bit_keys.specs.Branch.{width_of};
 ghost use Rattle.store_model.specs.Journal.{Stands};
-ghost use Rattle.mdb_journal.specs.Moves.{AreSynced};
+ghost use Rattle.mdb_journal.specs.DiskMoves.{AreSynced};
 ghost use Rattle.mdb_journal.specs.Opening.{Untouched};
 ghost use Rattle.value_store.specs.Values.{Keeps as ValuesKeep};
 ghost use Rattle.store_model.specs.Openings.{Opens};
 ghost use Rattle.change_history.specs.Histories.{no_commits};
 ghost use Rattle.view_model.specs.Forest.{no_views};
 ghost use Rattle.mdb_core.specs.Stores.{AreDigests, Keeps, is_failed};
-ghost use Rattle.mdb_core.specs.Opens.{Opened, OpenFails};
+ghost use Rattle.mdb_core.specs.StoreOpenings.{Opened, OpenFails};
 
 use crate::fault::told;
 use crate::{Config, Db, DbFault, Digests};

@@ -7,7 +7,7 @@ ghost use Rattle.batch_model.specs.Batch.{after_batch};
 ghost use Rattle.view_model.specs.Forest.{next_number};
 ghost use Rattle.view_model.specs.Calls.{view_refused, parent_refused, made, closed};
 ghost use Rattle.view_model.specs.Maps.{parent_map};
-ghost use Rattle.view_stack.specs.Told.{number_in};
+ghost use Rattle.view_stack.specs.ViewAnswers.{number_in};
 ghost use Rattle.mdb_core.specs.Stores.{Keeps, root_at};
 ghost use Rattle.mdb_core.specs.Places.{fault_of_refusal};
 ghost use Rattle.mdb_core.specs.Proposals.{Makes, MakeFails};

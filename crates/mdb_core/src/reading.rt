@@ -9,7 +9,7 @@ ghost use Rattle.view_model.specs.Forest.{Live, state};
 ghost use Rattle.view_model.specs.Calls.{view_refused, parent_refused};
 ghost use Rattle.view_model.specs.Maps.{laid, view_map, parent_map};
 ghost use Rattle.view_model.specs.Standing.{AreLive};
-ghost use Rattle.view_stack.specs.Told.{state_told, number_in, numbers};
+ghost use Rattle.view_stack.specs.ViewAnswers.{state_told, number_in, numbers};
 ghost use Rattle.mdb_journal.specs.Opening.{Untouched};
 ghost use Rattle.node_table.specs.Pairs.{AreShort};
 ghost use Rattle.mdb_core.specs.Stores.{Keeps, broken, is_failed, keys_of, root_at};

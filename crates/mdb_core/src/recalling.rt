@@ -6,7 +6,7 @@ ghost use Rattle.proof_model.specs.Refusals.{same_bytes};
 ghost use Rattle.history_model.specs.Held.{is_held, back as map_back};
 ghost use Rattle.history_model.specs.Between.{changes_between};
 ghost use Rattle.change_history.specs.Histories.{Remembers, roots};
-ghost use Rattle.change_history.specs.Told.{Tells, TellsEnd};
+ghost use Rattle.change_history.specs.ToldChanges.{Tells, TellsEnd};
 ghost use Rattle.mdb_core.specs.Stores.{held_maps};
 
 use crate::Db;

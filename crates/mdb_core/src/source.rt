@@ -12,7 +12,7 @@ ghost use Rattle.mdb_journal.specs.Opening.{Untouched};
 ghost use Rattle.mdb_core.specs.Stores.{Keeps, is_failed};
 ghost use Rattle.mdb_core.specs.Places.{GetFails, MayRead, Speaks, map_at};
 ghost use Rattle.mdb_core.specs.Spots.{IsSpotOf, keys_at};
-ghost use Rattle.mdb_core.specs.Reads.{Reads, source_answer};
+ghost use Rattle.mdb_core.specs.SourceReads.{Reads, source_answer};
 
 use crate::naming::Found;
 use crate::spot::{Past, Proposal, Spot};
@@ -37,7 +37,7 @@ pub struct DbSource<'b, D: Disk> {
 }
 
 impl<'b, D: Disk> NodeSource for DbSource<'b, D> {
-    ghost use Rattle.mdb_core.specs.Lending.{lending, lending-IsSource};
+    ghost use Rattle.mdb_core.specs.LentStores.{lending, lending-IsSource};
 
     ghost words = { lending D.words };
 

@@ -13,7 +13,7 @@ pub struct Proposal {
 }
 
 impl Model for Proposal {
-    ghost use Rattle.mdb_core.specs.Proposed.{ProposalState};
+    ghost use Rattle.mdb_core.specs.SpotParts.{ProposalState};
     ghost use Rattle.mdb_core.specs.Stores.{AreDigests};
 
     ghost Value = { ProposalState };
@@ -33,7 +33,7 @@ pub struct Past {
 }
 
 impl Model for Past {
-    ghost use Rattle.mdb_core.specs.Proposed.{PastState};
+    ghost use Rattle.mdb_core.specs.SpotParts.{PastState};
     ghost use Rattle.mdb_core.specs.Stores.{AreDigests};
 
     ghost Value = { PastState };

@@ -7,7 +7,7 @@ ghost use Rattle.trie_model.specs.Maps.{Map, limits};
 ghost use Rattle.batch_model.specs.Batch.{after_batch};
 ghost use Rattle.history_model.specs.Changes.{deltas as deltas_of, weight};
 ghost use Rattle.store_model.specs.Journal.{Stands};
-ghost use Rattle.mdb_journal.specs.Moves.{AreSynced, OthersStay};
+ghost use Rattle.mdb_journal.specs.DiskMoves.{AreSynced, OthersStay};
 ghost use Rattle.mdb_journal.specs.Opening.{Untouched};
 ghost use Rattle.value_store.specs.Values.{Keeps as ValuesKeep, broken as broken_values};
 ghost use Rattle.value_store.specs.Writes.{Writes, WriteFails, StandEither};

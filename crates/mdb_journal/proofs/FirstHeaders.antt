@@ -10,7 +10,7 @@ use Rattle.store_model.specs.Header.{Header, StoreFault, header_form, header_of,
 use Rattle.store_model.specs.Journal.{IsJournal, RecordsOf}
 use Rattle.store_model.proofs.Gates.{torn_behind, written_behind, torn_gate, written_gate}
 use Rattle.store_model.proofs.Journals.{active_is, journal_header}
-use Rattle.mdb_journal.specs.Moves.{AreSynced, IsSynced, TornAlone, OthersAsBefore}
+use Rattle.mdb_journal.specs.DiskMoves.{AreSynced, IsSynced, TornAlone, OthersAsBefore}
 use Rattle.mdb_journal.specs.FirstHeader.{BothClosed, IsShut, HoldNone, first_header}
 use Rattle.mdb_journal.proofs.HeaderFields.{too_short, closed_gate, open_header}
 

@@ -1,11 +1,11 @@
-pub mod Steps
-pub mod Rooms
-pub mod Appending
+pub mod WriteAndSync
+pub mod PayloadRooms
+pub mod AppendCrashes
 pub mod GivenBytes
 pub mod HeaderFields
 pub mod RecordFields
-pub mod Walking
-pub mod Finding
+pub mod GateSteps
+pub mod FoundFiles
 pub mod FirstHeaders
-pub mod Opened
+pub mod OpenedFiles
 pub mod NeverDamaged

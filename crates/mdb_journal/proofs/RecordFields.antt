@@ -5,7 +5,7 @@ use Rattle.std.proofs.lemmas.Bool.Decides.{nat_tests}
 use Rattle.std.proofs.lemmas.List.{drop-drop}
 use Rattle.base_model.specs.Fields.{bytes_at}
 use Rattle.store_model.specs.Fields.{byte_at, big_endian_at}
-use Rattle.mdb_journal.specs.Walk.{IsFound}
+use Rattle.mdb_journal.specs.GateWalk.{IsFound}
 use Rattle.store_model.specs.Record.{record_at, is_known}
 
 module _ (bytes : List ℕ) (at : ℕ) where

@@ -1,6 +1,6 @@
 pub mod Journal
-pub mod Moves
+pub mod DiskMoves
 pub mod Appends
 pub mod Opening
-pub mod Walk
+pub mod GateWalk
 pub mod FirstHeader

@@ -9,7 +9,7 @@ ghost use Rattle.store_model.specs.Record.{Record, IsRecord};
 ghost use Rattle.store_model.specs.Journal.{Hold, IsJournal, end_of};
 ghost use Rattle.store_model.specs.Laws.{gated};
 ghost use Rattle.mdb_journal.specs.Journal.{Knows, payload_in, payload_limit, record_in};
-ghost use Rattle.mdb_journal.specs.Moves.{IsSynced, AreSynced, OthersStay, HoldEither};
+ghost use Rattle.mdb_journal.specs.DiskMoves.{IsSynced, AreSynced, OthersStay, HoldEither};
 ghost use Rattle.mdb_journal.specs.Appends.{WithOrWithout};
 ghost use Rattle.mdb_journal.specs.declared.fault.JournalFault.TheVariants.{Failed as has_failed, Disk as disk_failed, TooLarge as too_large};
 

@@ -5,7 +5,7 @@ ghost use Rattle.disk_model.specs.Moments.{Meanwhile};
 ghost use Rattle.disk_model.specs.Words.{TellsContents, TellsImages};
 ghost use Rattle.store_model.specs.Header.{header_form, is_width, open_gate};
 ghost use Rattle.store_model.specs.Journal.{IsJournal};
-ghost use Rattle.mdb_journal.specs.Moves.{AreSynced, OthersStay};
+ghost use Rattle.mdb_journal.specs.DiskMoves.{AreSynced, OthersStay};
 ghost use Rattle.mdb_journal.specs.FirstHeader.{BothClosed, IsShut, HoldNone, first_header};
 
 use crate::header::{CLOSED, FIRST_GATE, OPEN};

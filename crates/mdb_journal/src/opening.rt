@@ -9,7 +9,7 @@ ghost use Rattle.store_model.specs.Header.{is_width, first_gate};
 ghost use Rattle.store_model.specs.Journal.{Hold, active};
 ghost use Rattle.store_model.specs.Record.{Record};
 ghost use Rattle.mdb_journal.specs.Journal.{Knows};
-ghost use Rattle.mdb_journal.specs.Moves.{AreSynced};
+ghost use Rattle.mdb_journal.specs.DiskMoves.{AreSynced};
 ghost use Rattle.mdb_journal.specs.Opening.{Untouched, IsOpened, Refuses, Opens, FailsOrDiffers};
 
 use crate::first_header::make_header;

@@ -3,7 +3,7 @@ ghost use Rattle.std.specs.Prelude.{◌≡◌, ◌+◌, ◌≤◌, true, false, 
 ghost use Rattle.base_model.specs.Faults.{Rose};
 ghost use Rattle.disk_model.specs.Words.{TellsContents};
 ghost use Rattle.mdb_journal.specs.Opening.{Untouched};
-ghost use Rattle.mdb_journal.specs.Walk.{AtGate};
+ghost use Rattle.mdb_journal.specs.GateWalk.{AtGate};
 ghost use Rattle.mdb_journal.specs.declared.fault.JournalFault.TheVariants.{Failed as has_failed, Disk as disk_failed};
 
 use crate::record::read_record;

@@ -7,7 +7,7 @@ ghost use Rattle.store_model.specs.Header.{first_gate};
 ghost use Rattle.store_model.specs.Record.{is_known};
 ghost use Rattle.std.specs.Int.{w32, from_be_bytes};
 ghost use Rattle.mdb_journal.specs.Opening.{Untouched};
-ghost use Rattle.mdb_journal.specs.Walk.{AtGate, Walked};
+ghost use Rattle.mdb_journal.specs.GateWalk.{AtGate, Walked};
 ghost use Rattle.mdb_journal.specs.declared.fault.JournalFault.TheVariants.{Disk as disk_failed, Failed as has_failed};
 
 use crate::JournalFault;

@@ -4,7 +4,7 @@ ghost use Rattle.base_model.specs.Faults.{HasCause};
 ghost use Rattle.disk_model.specs.Files.{Alone, written, first_touched, file_limit};
 ghost use Rattle.disk_model.specs.Moments.{Meanwhile};
 ghost use Rattle.disk_model.specs.Words.{TellsContents, TellsImages};
-ghost use Rattle.mdb_journal.specs.Moves.{IsSynced, Rests, OthersStay, TornAlone};
+ghost use Rattle.mdb_journal.specs.DiskMoves.{IsSynced, Rests, OthersStay, TornAlone};
 
 use disk_world::{Disk, Failed};
 

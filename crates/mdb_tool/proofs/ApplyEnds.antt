@@ -9,14 +9,14 @@ use Rattle.text_model.specs.Lines.{input_limit}
 use Rattle.session_model.specs.Session.{Step, Stop, BadLine as stopped_by_line, Limit as stopped_by_limit}
 use Rattle.session_model.specs.Script.{script}
 use Rattle.store_model.specs.Refusals.{Refusal}
-use Rattle.mdb_journal.specs.Moves.{AreSynced}
+use Rattle.mdb_journal.specs.DiskMoves.{AreSynced}
 use Rattle.mdb_core.specs.Stores.{DbState, Keeps}
 use Rattle.mdb_base.specs.declared.faults.LimitKind.{LimitKind as LimitOfCode}
 use Rattle.mdb_base.specs.declared.faults.LimitKind.TheVariants.{Input as InputOfCode, Pairs as PairsOfCode, Batch as BatchOfCode, Answers as AnswersOfCode}
 use Rattle.script_run.specs.declared.end.SessionEnd.{SessionEnd}
 use Rattle.script_run.specs.declared.end.SessionEnd.TheVariants as script_end
 use Rattle.script_run.specs.Ends.{end_of, limit_of}
-use Rattle.run_model.specs.Outside.{DiskSeen, Outside}
+use Rattle.run_model.specs.OutsideThings.{DiskSeen, Outside}
 use Rattle.run_model.specs.Command.{Apply}
 use Rattle.run_model.specs.End.{End, Done, BadWords, BadLine, NotOpened, VerifyRefused, NotHeld, Limit, Read, Write, Disk, NoMemory}
 use Rattle.run_model.specs.Outcome.{PrintsNothing, CameTo, IsComplete}
@@ -25,7 +25,7 @@ use Rattle.run_model.specs.Script.{HasSteps, ScriptRuns, Keeps as KeepsSteps, Su
 use Rattle.run_model.specs.Apply.{apply_outcome, ApplyRuns}
 use Rattle.run_model.specs.Runs.{SharedRuns, InputLimitHasCause}
 use Rattle.store_opening.specs.Opening.{IsJustOpened, KeepsMaps, IsOpen, FailsBy}
-use Rattle.run_model.proofs.Telling.{where_told, always, rose_at_last}
+use Rattle.run_model.proofs.ToldThings.{where_told, always, rose_at_last}
 use Rattle.store_opening.proofs.Openings.{open_keeps}
 use Rattle.mdb_tool.proofs.ScriptsSurvive.{no_step, opening_survives, script_survives}
 use Rattle.mdb_tool.proofs.StoreRuns.{StoreRuns, own_of, not_refused, came_to, finished, broke, wanted_memory, cut_off, failed}

@@ -3,8 +3,8 @@ use Rattle.std.proofs.Common.{◌≡◌, ◌⊎◌, inl, inr, ℕ, ◌≤◌, sy
 use Rattle.base_model.specs.Faults.{Rose}
 use Rattle.mdb_journal.specs.Opening.{Untouched}
 use Rattle.mdb_core.specs.Stores.{DbState}
-use Rattle.run_model.specs.Outside.{DiskSeen}
-use Rattle.run_model.proofs.Telling.{rose_at_last}
+use Rattle.run_model.specs.OutsideThings.{DiskSeen}
+use Rattle.run_model.proofs.ToldThings.{rose_at_last}
 use Rattle.script_run.specs.declared.end.SessionEnd.{SessionEnd}
 use Rattle.script_run.specs.declared.end.SessionEnd.TheVariants as ends
 use Rattle.store_opening.specs.Opening.{IsOpen, FailsBy}

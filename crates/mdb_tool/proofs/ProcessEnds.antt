@@ -1,6 +1,6 @@
 -- How a process ends, by the status of its run.
 use Rattle.std.proofs.Common.{◌≡◌, ◌≢◌, ℕ, Bool, List, refl, ap}
-use Rattle.run_model.specs.Outside.{OutputSeen}
+use Rattle.run_model.specs.OutsideThings.{OutputSeen}
 use Rattle.run_model.specs.End.{Done as DoneEnd, end_number}
 use Rattle.mdb_tool.specs.declared.status.Status.{Status}
 use Rattle.mdb_tool.specs.declared.status.Status.TheVariants.{Done, BadWords, BadLine, NotAStore, BranchDiffers, Damaged, VerifyRefused, NotHeld, Limit, Read, Write, Disk, NoMemory}

@@ -11,7 +11,7 @@ use Rattle.store_model.specs.Journal.{Stands}
 use Rattle.store_model.proofs.Journals.{files_stand_for_one_map}
 use Rattle.mdb_journal.specs.Opening.{Untouched}
 use Rattle.mdb_core.specs.Stores.{DbState, Keeps}
-use Rattle.run_model.specs.Outside.{DiskSeen, Outside}
+use Rattle.run_model.specs.OutsideThings.{DiskSeen, Outside}
 use Rattle.run_model.specs.Command.{Get, Prove, Range, Changes}
 use Rattle.run_model.specs.End.{End, Done, BadWords, BadLine, NotOpened, VerifyRefused, NotHeld, Limit, Read, Write, Disk, NoMemory}
 use Rattle.run_model.specs.Outcome.{Outcome, PrintsNothing, CameTo}
@@ -20,13 +20,13 @@ use Rattle.run_model.specs.Get.{get_outcome}
 use Rattle.run_model.specs.Prove.{proof_outcome, prove_outcome}
 use Rattle.run_model.specs.Range.{range_proof_outcome, range_outcome}
 use Rattle.run_model.specs.Changes.{changes_proof_outcome, changes_outcome}
-use Rattle.run_model.specs.Reading.{IsAnswer, ReadRuns}
+use Rattle.run_model.specs.ReadCommands.{IsAnswer, ReadRuns}
 use Rattle.run_model.specs.Runs.{SharedRuns}
 use Rattle.range_model.specs.Ranges.{Range as Bounds}
 use Rattle.text_model.specs.Words.{RootWord}
 use Rattle.store_opening.specs.Opening.{KeepsMaps, IsOpen, FailsBy}
-use Rattle.mdb_tool.specs.Finding.{Finds, IsValueAt, IsLineOf, line_outcome}
-use Rattle.run_model.proofs.Telling.{always, whole}
+use Rattle.mdb_tool.specs.MapReads.{Finds, IsValueAt, IsLineOf, line_outcome}
+use Rattle.run_model.proofs.ToldThings.{always, whole}
 use Rattle.store_opening.proofs.Openings.{open_keeps, open_stands, untouched_stands}
 use Rattle.mdb_tool.proofs.StoreRuns.{StoreRuns, own_of, not_refused, came_to, cut_off, finished, failed, not_held}
 

@@ -11,7 +11,7 @@ use Rattle.text_model.specs.Lines.{input_limit, settled_lines, lines_within}
 use Rattle.text_model.specs.Texts.{Input, root_text}
 use Rattle.text_model.specs.MapOfLines.{map_of_lines, bad_line}
 use Rattle.store_model.specs.Refusals.{Refusal}
-use Rattle.run_model.specs.Outside.{Outside}
+use Rattle.run_model.specs.OutsideThings.{Outside}
 use Rattle.run_model.specs.End.{End, Done, BadLine, Limit, Read, Write, NoMemory}
 use Rattle.run_model.specs.Outcome.{Outcome, silent, EndsAs, Prints, PrintsPrefix, PrintsNothing, IsUndecided, CameTo, IsComplete}
 use Rattle.run_model.specs.Root.{outcome_of, root_outcome, root_decided, RootRuns}
@@ -20,7 +20,7 @@ use Rattle.run_model.specs.Runs.{SharedRuns, CommandNeeds, command_outcome}
 use Rattle.mdb_tool.specs.declared.map_lines.MapFault.{MapFault}
 use Rattle.mdb_tool.specs.declared.map_lines.MapFault.TheVariants.{Line as AtLine, Read as AtRead, Limit as AtLimit, NoMemory as AtMemory}
 use Rattle.mdb_tool.specs.Ends.{end_of}
-use Rattle.run_model.proofs.Telling.{where_told, always, whole}
+use Rattle.run_model.proofs.ToldThings.{where_told, always, whole}
 use Rattle.mdb_tool.specs.MapLines.{MakesMap, Makes, FirstBad, IsPastLimit, GoodSoFar, status_of_fault}
 
 -- all that a run of `root` promises

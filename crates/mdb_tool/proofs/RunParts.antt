@@ -1,7 +1,7 @@
 -- From what the run of a job promises to what the run of its words does.
 use Rattle.std.proofs.Common.{◌≡◌, ℕ, List, Result, Ok, Err, sym, subst, ◌∙◌}
 use Rattle.run_model.specs.Command.{Root, Apply, Get, Prove, Range, Changes, Verify, Job, job_of}
-use Rattle.run_model.specs.Outside.{Outside}
+use Rattle.run_model.specs.OutsideThings.{Outside}
 use Rattle.run_model.specs.End.{End}
 use Rattle.run_model.specs.Outcome.{IsComplete}
 use Rattle.run_model.specs.Runs.{Needs, JobNeeds, outcome, job_outcome, AsksForStore, StoreHasCause, TellsOwn, IsOwnEnd, SharedRuns, command_runs, RootPart, ApplyPart, GetPart, ProvePart, RangePart, ChangesPart, VerifyPart}

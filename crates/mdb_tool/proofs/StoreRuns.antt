@@ -5,16 +5,16 @@ use Rattle.base_model.specs.Faults.{Rose}
 use Rattle.disk_model.specs.Words.{TellsContents}
 use Rattle.trie_model.specs.Maps.{Map, limits}
 use Rattle.store_model.specs.Refusals.{Refusal, Found}
-use Rattle.proof_model.specs.Checked.{Cause}
+use Rattle.proof_model.specs.CheckedBytes.{Cause}
 use Rattle.store_model.proofs.Refusals.{files_are_found_once}
-use Rattle.run_model.specs.Outside.{DiskSeen, Outside}
+use Rattle.run_model.specs.OutsideThings.{DiskSeen, Outside}
 use Rattle.run_model.specs.End.{End, Done, BadWords, BadLine, NotOpened, VerifyRefused, NotHeld, Limit, Read, Write, Disk, NoMemory}
 use Rattle.run_model.specs.Outcome.{Outcome, PrintsNothing, CameTo, IsComplete}
 use Rattle.run_model.specs.Store.{IsFound, NeedsStore, on_found, RefusalHasCause}
 use Rattle.run_model.specs.Command.{Command, names_map, checks_proofs}
 use Rattle.run_model.specs.Runs.{ReadHasCause, WriteHasCause, DiskHasCause, InputLimitHasCause, IsOwnEnd}
 use Rattle.store_opening.specs.Opening.{FailsBy}
-use Rattle.run_model.proofs.Telling.{always}
+use Rattle.run_model.proofs.ToldThings.{always}
 
 -- the fields of what every run promises, for a command with this outcome on a map and an input, which names a map or doesn't
 pub record StoreRuns (names : Bool) (w : ℕ) (on_map : Map → List ℕ → Outcome) (before after : Outside) (end : End) : Type 0 where

@@ -3,7 +3,7 @@ use Rattle.mdb_tool.specs.declared.status.Status.{Status}
 use Rattle.mdb_tool.specs.declared.status.Status.TheVariants.{Done as DoneStatus, BadWords as BadWordsStatus, BadLine as BadLineStatus, NotAStore as NotAStoreStatus, BranchDiffers as BranchDiffersStatus, Damaged as DamagedStatus, VerifyRefused as VerifyRefusedStatus, NotHeld as NotHeldStatus, Limit as LimitStatus, Read as ReadStatus, Write as WriteStatus, Disk as DiskStatus, NoMemory as NoMemoryStatus}
 use Rattle.store_model.specs.Refusals.{NotAStore, BranchDiffers, Damaged}
 use Rattle.run_model.specs.End.{End, Done, BadWords, BadLine, NotOpened, VerifyRefused, NotHeld, Limit, Read, Write, Disk, NoMemory}
-use Rattle.proof_check.specs.Refused.{seen_cause}
+use Rattle.proof_check.specs.RefusalReasons.{seen_cause}
 use Rattle.script_run.specs.declared.end.SessionEnd.{SessionEnd}
 use Rattle.script_run.specs.declared.end.SessionEnd.TheVariants as ends
 use Rattle.script_run.specs.Ends.{limit_of}

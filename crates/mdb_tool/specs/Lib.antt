@@ -1,8 +1,8 @@
 pub mod ReadJob
 pub mod Ends
 pub mod MapLines
-pub mod Asked
+pub mod AskedTexts
 pub mod Folder
-pub mod Finding
+pub mod MapReads
 pub mod Hints
 pub mod Process

@@ -3,7 +3,7 @@ use Rattle.std.specs.Prelude.{◌≡◌, ◌≢◌, ◌⊎◌, ℕ, Bool, true, 
 use Rattle.std.specs.Io.KnownBytes.{Appends}
 use Rattle.base_model.specs.Faults.{Rose}
 use Rattle.base_model.specs.Streams.{AppendsPrefix}
-use Rattle.run_model.specs.Outside.{OutputSeen, Outside}
+use Rattle.run_model.specs.OutsideThings.{OutputSeen, Outside}
 use Rattle.run_model.specs.End.{End, Done, Write, NoMemory, end_text, end_number}
 use Rattle.run_model.specs.Runs.{WriteHasCause, Runs}
 use Rattle.mdb_tool.specs.declared.hints.Hint.{Hint}

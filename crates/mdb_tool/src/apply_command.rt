@@ -2,7 +2,7 @@
 ghost use Rattle.std.specs.Prelude.{◌≡◌, true};
 ghost use Rattle.bit_keys.specs.Branch.{width_of};
 ghost use Rattle.mdb_core.specs.Stores.{is_failed};
-ghost use Rattle.run_model.specs.Outside.{outside, disk_seen};
+ghost use Rattle.run_model.specs.OutsideThings.{outside, disk_seen};
 ghost use Rattle.run_model.specs.Command.{Apply};
 ghost use Rattle.run_model.specs.Apply.{ApplyRuns};
 ghost use Rattle.run_model.specs.Runs.{SharedRuns};

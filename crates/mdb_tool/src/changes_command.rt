@@ -2,12 +2,12 @@
 ghost use Rattle.std.specs.Prelude.{◌≤◌, ℕ, List, Option, IfOk, IfErr, option_map, string_bytes};
 ghost use Rattle.bit_keys.specs.Branch.{width_of};
 ghost use Rattle.batch_text.specs.SeenLine.{seen_root};
-ghost use Rattle.run_model.specs.Outside.{outside, disk_seen};
+ghost use Rattle.run_model.specs.OutsideThings.{outside, disk_seen};
 ghost use Rattle.run_model.specs.Command.{Changes as ChangesOf};
 ghost use Rattle.run_model.specs.Changes.{ChangesRuns, changes_outcome};
 ghost use Rattle.run_model.specs.Runs.{SharedRuns};
 ghost use Rattle.mdb_tool.specs.Ends.{end_of};
-ghost use Rattle.mdb_tool.specs.Finding.{Finds, IsLineOf};
+ghost use Rattle.mdb_tool.specs.MapReads.{Finds, IsLineOf};
 ghost use Rattle.store_opening.specs.Opening.{KeepsMaps, FailsBy};
 
 use crate::status::Status;

@@ -1,13 +1,13 @@
 // The command `get`: the value of a key in a store.
 ghost use Rattle.std.specs.Prelude.{◌≤◌, ℕ, List, Option, IfOk, IfErr, option_map};
 ghost use Rattle.bit_keys.specs.Branch.{width_of};
-ghost use Rattle.run_model.specs.Outside.{outside, disk_seen};
+ghost use Rattle.run_model.specs.OutsideThings.{outside, disk_seen};
 ghost use Rattle.run_model.specs.Command.{Get};
 ghost use Rattle.run_model.specs.Get.{GetRuns};
 ghost use Rattle.run_model.specs.Runs.{SharedRuns};
 ghost use Rattle.mdb_tool.specs.Ends.{end_of};
 ghost use Rattle.store_opening.specs.Opening.{KeepsMaps, FailsBy};
-ghost use Rattle.mdb_tool.specs.Finding.{Finds, IsValueAt};
+ghost use Rattle.mdb_tool.specs.MapReads.{Finds, IsValueAt};
 
 use crate::status::Status;
 use crate::store_faults::status_of_fault;

@@ -1,7 +1,7 @@
 // The texts of `--help` and `--version`.
 ghost use Rattle.std.specs.Prelude.{◌≡◌, map, string_bytes};
 ghost use Rattle.std.specs.Option.{option_copied};
-ghost use Rattle.mdb_tool.specs.Asked.{asked, word_asked};
+ghost use Rattle.mdb_tool.specs.AskedTexts.{asked, word_asked};
 
 /// What `mdb --help` prints.
 pub(crate) const HELP: &str = "mdb: an authenticated map, which one root of 32 bytes vouches for

@@ -1,10 +1,10 @@
 // What the process does around the top call.
 ghost use Rattle.std.specs.Prelude.{◌≡◌, ◌≢◌, ◌++◌, [], IfOk, IfErr, IfSome, None, false, map, string_bytes};
 ghost use Rattle.std.specs.Process.{exit_status};
-ghost use Rattle.run_model.specs.Outside.{outside, output_seen, disk_seen};
+ghost use Rattle.run_model.specs.OutsideThings.{outside, output_seen, disk_seen};
 ghost use Rattle.run_model.specs.Runs.{Runs};
 ghost use Rattle.mdb_tool.specs.declared.status.Status.{Status};
-ghost use Rattle.mdb_tool.specs.Asked.{asked};
+ghost use Rattle.mdb_tool.specs.AskedTexts.{asked};
 ghost use Rattle.mdb_tool.specs.Ends.{end_of};
 ghost use Rattle.mdb_tool.specs.Process.{PrintsText, Answers, TakesText, TellsEnd, Greets, is_greeted, told_text, EndsBy, end_line};
 ghost use Rattle.mdb_tool.specs.Hints.{hint_lines, end_hint as end_hint_of, unread_hint as unread_hint_of};

@@ -1,6 +1,6 @@
 // The top call.
 ghost use Rattle.std.specs.Prelude.{map, string_bytes};
-ghost use Rattle.run_model.specs.Outside.{outside, disk_seen};
+ghost use Rattle.run_model.specs.OutsideThings.{outside, disk_seen};
 ghost use Rattle.run_model.specs.Outcome.{IsComplete};
 ghost use Rattle.run_model.specs.Runs.{outcome, Needs, command_runs, TellsWords, WordsTouchNothing, ReadHasCause, WriteHasCause, DiskHasCause, StoreHasCause, InputLimitHasCause, TellsOwn, SharedRuns, RootPart, ApplyPart, GetPart, ProvePart, RangePart, ChangesPart, VerifyPart};
 ghost use Rattle.bit_keys.specs.Branch.{width_of};

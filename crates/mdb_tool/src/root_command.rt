@@ -2,7 +2,7 @@
 ghost use Rattle.std.specs.Prelude.{IfOk, string_bytes, ◌≡◌};
 ghost use Rattle.text_model.specs.Texts.{root_text};
 ghost use Rattle.bit_keys.specs.Branch.{width_of};
-ghost use Rattle.run_model.specs.Outside.{DiskSeen, outside};
+ghost use Rattle.run_model.specs.OutsideThings.{DiskSeen, outside};
 ghost use Rattle.run_model.specs.Command.{Root};
 ghost use Rattle.run_model.specs.Root.{RootRuns};
 ghost use Rattle.run_model.specs.Runs.{SharedRuns};

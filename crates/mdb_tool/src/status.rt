@@ -3,7 +3,7 @@ ghost use Rattle.std.specs.Prelude.{◌≡◌, IfOk, string_bytes};
 ghost use Rattle.run_model.specs.End.{end_text, end_number};
 ghost use Rattle.text_model.specs.Texts.{limit_word, proof_refused_text, no_store_text, branch_text, damaged_text};
 ghost use Rattle.proof_model.specs.CauseWords.{cause_words};
-ghost use Rattle.proof_check.specs.Refused.{seen_cause};
+ghost use Rattle.proof_check.specs.RefusalReasons.{seen_cause};
 ghost use Rattle.script_run.specs.Ends.{limit_of};
 ghost use Rattle.mdb_tool.specs.Ends.{end_of};
 

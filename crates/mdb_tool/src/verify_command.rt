@@ -1,7 +1,7 @@
 // The command `verify`: whether the proofs of an input are accepted.
 ghost use Rattle.std.specs.Prelude.{◌≡◌};
 ghost use Rattle.bit_keys.specs.Branch.{width_of};
-ghost use Rattle.run_model.specs.Outside.{outside, disk_seen};
+ghost use Rattle.run_model.specs.OutsideThings.{outside, disk_seen};
 ghost use Rattle.run_model.specs.Command.{Verify};
 ghost use Rattle.run_model.specs.Verify.{VerifyRuns};
 ghost use Rattle.run_model.specs.Runs.{SharedRuns};

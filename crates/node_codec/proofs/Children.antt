@@ -6,7 +6,7 @@ use Rattle.trie_model.specs.Maps.{Limits}
 use Rattle.trie_model.specs.StoredNode.{StoredChild, StoredFault, child_at, children_at}
 use Rattle.node_codec.specs.declared.fault.NodeFault.{NodeFault}
 use Rattle.node_codec.specs.declared.fault.NodeFault.TheVariants as faults
-use Rattle.node_codec.specs.Stored.{Fails}
+use Rattle.node_codec.specs.StoredNodes.{Fails}
 
 -- children in front of those that are read
 abbrev pub with_front : List StoredChild → Field StoredFault (List StoredChild) → Field StoredFault (List StoredChild)

@@ -1,4 +1,4 @@
-pub mod Pieces
-pub mod Rests
+pub mod NodePieces
+pub mod RestBits
 pub mod Children
-pub mod Whole
+pub mod WholeNodes

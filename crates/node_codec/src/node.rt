@@ -28,7 +28,7 @@ pub struct Node {
 
 impl Model for Node {
     ghost use Rattle.trie_model.specs.StoredNode.{StoredNode};
-    ghost use Rattle.node_codec.specs.Stored.{stored_children};
+    ghost use Rattle.node_codec.specs.StoredNodes.{stored_children};
 
     ghost Value = { StoredNode };
 

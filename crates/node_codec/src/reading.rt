@@ -3,7 +3,7 @@ ghost use Rattle.bit_keys.specs.Branch.{width_of};
 ghost use Rattle.base_model.specs.Fields.{number_at, bytes_at, flag_at, bits_at};
 ghost use Rattle.trie_model.specs.Maps.{limits};
 ghost use Rattle.trie_model.specs.StoredNode.{StoredNode, IsStored, stored_form, Short, BadFlag, Padding, rest_limit, bad_varint, digest_bytes_at, value_at, index_at, bit_count_at, rest_at, child_at, children_at, node_at, stored_node};
-ghost use Rattle.node_codec.specs.Stored.{Gives, stored_child, stored_children};
+ghost use Rattle.node_codec.specs.StoredNodes.{Gives, stored_child, stored_children};
 
 use crate::digest::Digest;
 use crate::fault::NodeFault;

@@ -4,7 +4,7 @@ ghost use Rattle.std.specs.Option.{option_copied};
 ghost use Rattle.trie_model.specs.Hashing.{digest_form, key_form};
 ghost use Rattle.base_model.specs.Fields.{flag_form};
 ghost use Rattle.trie_model.specs.StoredNode.{stored_child_form, stored_form};
-ghost use Rattle.node_codec.specs.Stored.{stored_child, stored_children};
+ghost use Rattle.node_codec.specs.StoredNodes.{stored_child, stored_children};
 ghost use Rattle.base_model.specs.Bytes.{Grown};
 
 use crate::digest::Digest;

@@ -7,7 +7,7 @@ ghost use Rattle.trie_model.specs.Maps.{Limits, Map, map_digests, root};
 ghost use Rattle.trie_model.specs.Strings.{strings};
 ghost use Rattle.trie_model.specs.Table.{items_table, table};
 ghost use Rattle.bit_keys.specs.Branch.{width_of};
-ghost use Rattle.map_root.specs.Built.{pair_items, AreWithin};
+ghost use Rattle.map_root.specs.BuilderPairs.{pair_items, AreWithin};
 ghost use Rattle.map_root.specs.Hashes.{GrewAtMost};
 ghost use Rattle.trie_items.specs.Sources.{first_key, row_of};
 ghost use Rattle.node_table.specs.Rows.{row_key};

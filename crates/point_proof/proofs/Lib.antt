@@ -1,7 +1,7 @@
 pub mod WalkedKeys
 pub mod WalkedNodes
-pub mod Widths
+pub mod TokenWidths
 pub mod JoinedKeys
-pub mod Calls
-pub mod Ways
-pub mod Verified
+pub mod SourceCalls
+pub mod WaysDown
+pub mod AcceptedProofs

@@ -12,7 +12,7 @@ use Rattle.trie_model.proofs.Prefixes.{is_prefix-take, is_prefix-through, length
 use Rattle.trie_model.proofs.Rising.{not_after}
 use Rattle.proof_model.proofs.PathKeys.{Least, AreNodeKeys, keys_at, keys_in, key_toward, with_key_toward, last_key_of, path_keys, shorter_begins, below_begins, shortest_in, one_key}
 use Rattle.proof_model.proofs.PathKeys as keys
-use Rattle.point_proof.specs.Ways.{goes_on, go_on}
+use Rattle.point_proof.specs.WaysDown.{goes_on, go_on}
 
 -- the node key toward k below n
 abbrev pub next_key_on : ℕ → List (List Bool) → List Bool → List Bool → Option (List Bool)

@@ -24,7 +24,7 @@ use Rattle.trie_items.specs.Sources.{first_key, row_of}
 use Rattle.proof_model.specs.Paths.{ProofNode, shown_row, path_rows, path}
 use Rattle.proof_model.proofs.PathKeys.{AreNodeKeys, path_keys, shortest_in}
 use Rattle.proof_model.proofs.TruePaths.{node_keys-AreNodeKeys, path_rows-keys}
-use Rattle.point_proof.specs.Ways.{child_at, key_in_slot, goes_on, next_on_way, with_node, go_on, way, whole_way}
+use Rattle.point_proof.specs.WaysDown.{child_at, key_in_slot, goes_on, next_on_way, with_node, go_on, way, whole_way}
 use Rattle.point_proof.proofs.WalkedKeys.{next_key_on, walk, first_of, walked_whole}
 
 -- ---- node keys of any keys of whole tokens

@@ -10,7 +10,7 @@ ghost use Rattle.proof_model.specs.Proofs.{point_proof};
 ghost use Rattle.proof_model.specs.Claims.{pair_of as pairs_of, point_claim, claim_items, claim_strings};
 ghost use Rattle.proof_model.specs.Refusals.{point_refusal};
 ghost use Rattle.proof_check.specs.Claims.{pair_of};
-ghost use Rattle.proof_check.specs.Told.{Tells, Costs};
+ghost use Rattle.proof_check.specs.CheckResults.{Tells, Costs};
 
 use bit_keys::{Branch, Id, NoMemory, Range};
 use proof_check::{Claim, Entry, PointProof, VerifyFault, check};

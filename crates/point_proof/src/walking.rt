@@ -2,12 +2,12 @@ ghost use Rattle.std.specs.Prelude.{◌≡◌, ◌+◌, ◌≤◌, ◌++◌, IfO
 ghost use Rattle.trie_model.specs.Bits.{is_prefix};
 ghost use Rattle.trie_model.specs.Maps.{Map};
 ghost use Rattle.trie_model.specs.Table.{hashed_child, table};
-ghost use Rattle.node_codec.specs.Stored.{stored_children};
+ghost use Rattle.node_codec.specs.StoredNodes.{stored_children};
 ghost use Rattle.bit_keys.specs.Branch.{width_of};
 ghost use Rattle.trie_items.specs.Children.{children_of};
 ghost use Rattle.trie_items.specs.Sources.{Answers};
 ghost use Rattle.proof_model.specs.Paths.{path, shown_row};
-ghost use Rattle.point_proof.specs.Ways.{child_at, key_in_slot, next_on_way, whole_way};
+ghost use Rattle.point_proof.specs.WaysDown.{child_at, key_in_slot, next_on_way, whole_way};
 
 use crate::joining::joined;
 use bit_keys::{Branch, Key, NoMemory};

@@ -23,10 +23,10 @@ use Rattle.proof_model.specs.Claims.{Claim, nodes, leads_to, stub_beside, value_
 use Rattle.proof_model.specs.Refusals.{extends, first_break}
 use Rattle.proof_check.specs.Claims.{stubs_of, told_of}
 use Rattle.proof_check.specs.Descents.{IsPathOf, is_in_front, in_front, told_ahead, told_behind, told_down, told_up}
-use Rattle.proof_check.proofs.InOrder.{AllPlaced, AllPlaced-append, AllPlaced-weaker, AllAbove, AllAbove-append, Apart, in_order-amid}
+use Rattle.proof_check.proofs.OrderedItems.{AllPlaced, AllPlaced-append, AllPlaced-weaker, AllAbove, AllAbove-append, Apart, in_order-amid}
 use Rattle.proof_check.proofs.PathOrders.{GoesOn, all_go_on, unbroken_behind, unbroken_from}
-use Rattle.proof_check.proofs.ToldBeside.{one_rises, stub_above, leads_to-append}
-use Rattle.proof_check.proofs.Gathered.{All-front, All-back}
+use Rattle.proof_check.proofs.ItemsBeside.{one_rises, stub_above, leads_to-append}
+use Rattle.proof_check.proofs.ClaimItems.{All-front, All-back}
 
 -- ---- paths
 -- a slot that leads to a node further down leads to one of all

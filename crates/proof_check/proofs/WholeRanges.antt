@@ -18,9 +18,9 @@ use Rattle.proof_model.specs.RangeWire.{IsWirePair, IsRangeProof, pair_form, pai
 use Rattle.proof_model.specs.Wire.{path_form}
 use Rattle.proof_model.proofs.WireRanges.{spelled_ranges_are_read, read_ranges_are_spelled}
 use Rattle.proof_check.specs.declared.wire_fault.WireFault.{WireFault}
-use Rattle.proof_check.specs.Read.{Gives}
-use Rattle.proof_check.proofs.Gathered.{All-front, All-back}
-use Rattle.proof_check.proofs.Whole.{width_of-IsWidth, bytes_are, short_values, proof_nodes}
+use Rattle.proof_check.specs.ReaderAnswers.{Gives}
+use Rattle.proof_check.proofs.ClaimItems.{All-front, All-back}
+use Rattle.proof_check.proofs.WholePoints.{width_of-IsWidth, bytes_are, short_values, proof_nodes}
 
 -- a proof that was read is in the grammar, and is spelled so
 pub is_found : (b : Branch) (bytes : List ℕ) (r : Result RangeProof WireFault) → ((i : ℕ) → get_or bytes i 0 < 256) → Gives (λ p. p) r (range_of limits (width_of b) bytes) → IfOk r (λ p. IsRangeProof limits (width_of b) p × (bytes ≡ range_form p))

@@ -11,7 +11,7 @@ use Rattle.proof_model.specs.Proofs.{Pair}
 use Rattle.proof_model.specs.Claims as words
 use Rattle.proof_model.specs.Claims.{nodes, stub_beside, value_beside}
 use Rattle.proof_model.specs.Refusals.{Refusal, Unsorted, Outside, or_else, first_break, first_place, extends, is_less, lies_outside, path_refusal}
-use Rattle.proof_model.specs.Sound.{AreSorted}
+use Rattle.proof_model.specs.SoundProofs.{AreSorted}
 use Rattle.proof_check.specs.declared.claim.Entry.{Entry}
 use Rattle.proof_check.specs.declared.claim.Claim.{Claim}
 

@@ -1,6 +1,6 @@
-pub mod Read
-pub mod Fronts
-pub mod Told
+pub mod ReaderAnswers
+pub mod ItemFronts
+pub mod CheckResults
 pub mod Claims
 pub mod Descents
-pub mod Refused
+pub mod RefusalReasons

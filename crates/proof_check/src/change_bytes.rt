@@ -5,7 +5,7 @@ ghost use Rattle.trie_model.specs.Maps.{limits};
 ghost use Rattle.proof_model.specs.ChangeLaws.{IsChangeClaim};
 ghost use Rattle.proof_model.specs.ChangeProofs.{ChangeProof as ShownChanges};
 ghost use Rattle.proof_model.specs.ChangeWire.{IsChangeProof, changes_form, changes_of as changes_read};
-ghost use Rattle.proof_check.specs.Read.{Gives};
+ghost use Rattle.proof_check.specs.ReaderAnswers.{Gives};
 
 use crate::change::ChangeProof;
 use crate::change_reading::changes_of;

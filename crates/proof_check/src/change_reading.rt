@@ -3,7 +3,7 @@ ghost use Rattle.std.specs.Prelude.{◌≡◌, ◌≤◌, length, IfOk};
 ghost use Rattle.trie_model.specs.Maps.{limits};
 ghost use Rattle.proof_model.specs.Wire.{listed_at, counted_at};
 ghost use Rattle.proof_model.specs.ChangeWire.{change_at};
-ghost use Rattle.proof_check.specs.Read.{Gives};
+ghost use Rattle.proof_check.specs.ReaderAnswers.{Gives};
 
 use crate::fields::{copied, maybe_of, number_of, sized_of};
 use crate::sized_field::SizedField;

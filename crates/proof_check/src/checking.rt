@@ -6,7 +6,7 @@ ghost use Rattle.bit_keys.specs.Branch.{width_of};
 ghost use Rattle.proof_model.specs.Claims.{claim_items};
 ghost use Rattle.proof_model.specs.Refusals.{first_break, first_place, lies_outside, refusal, root_refusal, or_else, Outside};
 ghost use Rattle.proof_check.specs.Claims.{claim_of, keys_of, entry_less, entry_outside, entry_refusal, listed_refusal, HaveBytes, IsCheckable};
-ghost use Rattle.proof_check.specs.Told.{Tells, Costs};
+ghost use Rattle.proof_check.specs.CheckResults.{Tells, Costs};
 
 use crate::claim::{Claim, Entry};
 use crate::items::items_of;

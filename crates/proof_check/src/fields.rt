@@ -3,7 +3,7 @@
 ghost use Rattle.std.specs.Prelude.{◌≡◌, ◌≤◌, ◌∷◌, [], length, option_map, IfOk, IfSome};
 ghost use Rattle.base_model.specs.Fields.{number_at, bytes_at, flag_at};
 ghost use Rattle.proof_model.specs.Wire.{Short, Flag, wrong, bad_number, head_at, sized_at, maybe_at};
-ghost use Rattle.proof_check.specs.Read.{Gives, size_limit, size_fault};
+ghost use Rattle.proof_check.specs.ReaderAnswers.{Gives, size_limit, size_fault};
 
 use crate::sized_field::SizedField;
 use crate::wire_fault::{WireFault, WireKind};

@@ -6,11 +6,11 @@ ghost use Rattle.bit_keys.specs.Branch.{width_of};
 ghost use Rattle.trie_items.specs.Items.{item_of};
 ghost use Rattle.proof_model.specs.Claims.{claim_items};
 ghost use Rattle.proof_model.specs.Refusals.{path_refusal};
-ghost use Rattle.proof_model.specs.Sound.{IsClaim};
+ghost use Rattle.proof_model.specs.SoundProofs.{IsClaim};
 ghost use Rattle.proof_check.specs.Claims.{claim_of, pair_of, AreUnbroken};
-ghost use Rattle.proof_check.specs.Fronts.{begins_before, is_before, put_before};
+ghost use Rattle.proof_check.specs.ItemFronts.{begins_before, is_before, put_before};
 ghost use Rattle.proof_check.specs.Descents.{IsPathOf, told_down, told_up};
-ghost use Rattle.proof_check.specs.Told.{Tells};
+ghost use Rattle.proof_check.specs.CheckResults.{Tells};
 
 use crate::beside::{most_told, push_down, push_up, told_beside};
 use crate::claim::{Claim, Entry};

@@ -4,7 +4,7 @@ ghost use Rattle.trie_model.specs.Bits.{IsRising};
 ghost use Rattle.trie_model.specs.Items.{place_of, places};
 ghost use Rattle.trie_items.specs.Items.{item_of};
 ghost use Rattle.proof_model.specs.Claims.{in_order};
-ghost use Rattle.proof_check.specs.Fronts.{fronts_cmp};
+ghost use Rattle.proof_check.specs.ItemFronts.{fronts_cmp};
 
 use bit_keys::{Key, NoMemory};
 use std::alloc::Global;

@@ -7,7 +7,7 @@ ghost use Rattle.trie_model.specs.Maps.{limits};
 ghost use Rattle.trie_model.specs.StoredNode.{rest_limit};
 ghost use Rattle.trie_items.specs.Children.{children_of as shown_children};
 ghost use Rattle.proof_model.specs.Wire.{Short, Padding, LongDigest, wrong, maybe_at, bit_count_at, node_key_at, index_at, children_at, node_at, nodes_at, path_at};
-ghost use Rattle.proof_check.specs.Read.{Gives, child_at};
+ghost use Rattle.proof_check.specs.ReaderAnswers.{Gives, child_at};
 
 use crate::fields::{bytes_of, maybe_of, number_of};
 use crate::proof_node::ProofNode;
@@ -166,7 +166,7 @@ fn children_of(
     Ok((children, next))
 }
 
-#[tactic(auto, unfolding(crate::specs::Read::child_at))]
+#[tactic(auto, unfolding(crate::specs::ReaderAnswers::child_at))]
 fn child_of(
     bytes: &[u8],
     at: usize,

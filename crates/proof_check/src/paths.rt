@@ -1,7 +1,7 @@
 ghost use Rattle.std.specs.Prelude.{◌≡◌, ◌<◌, ◌^◌, length, None};
 ghost use Rattle.proof_model.specs.Refusals.{extends as extends_key, first_break as first_break_of, first_place, disagree as disagree_of, disagrees_with, same_digest as same_digest_of, same_children as same_children_of, path_refusal, or_else, PathsDiffer};
 ghost use Rattle.trie_items.specs.Children.{children_of};
-ghost use Rattle.proof_check.specs.Told.{Tells};
+ghost use Rattle.proof_check.specs.CheckResults.{Tells};
 
 use crate::proof_node::ProofNode;
 use crate::verify_fault::VerifyFault;

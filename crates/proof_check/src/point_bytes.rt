@@ -6,7 +6,7 @@ ghost use Rattle.trie_model.specs.Maps.{limits};
 ghost use Rattle.proof_model.specs.Paths.{IsProofNode};
 ghost use Rattle.proof_model.specs.Proofs.{PointProof as ShownPoint};
 ghost use Rattle.proof_model.specs.Wire.{IsPoint, point_form, point_of as point_read};
-ghost use Rattle.proof_check.specs.Read.{Gives};
+ghost use Rattle.proof_check.specs.ReaderAnswers.{Gives};
 
 use crate::fields::{copied, head_of, maybe_of};
 use crate::path_reading::path_of;

@@ -5,7 +5,7 @@ ghost use Rattle.trie_model.specs.Maps.{limits};
 ghost use Rattle.proof_model.specs.RangeLaws.{IsRangeClaim};
 ghost use Rattle.proof_model.specs.RangeProofs.{RangeProof as ShownRange};
 ghost use Rattle.proof_model.specs.RangeWire.{IsRangeProof, range_form, range_of as range_read};
-ghost use Rattle.proof_check.specs.Read.{Gives};
+ghost use Rattle.proof_check.specs.ReaderAnswers.{Gives};
 
 use crate::fields::{flag_of, head_of};
 use crate::pair_reading::pairs_of;

@@ -1,5 +1,5 @@
 ghost use Rattle.std.specs.Prelude.{◌≡◌, Some};
-ghost use Rattle.proof_check.specs.Read.{seen_kind, size_limit, size_fault};
+ghost use Rattle.proof_check.specs.ReaderAnswers.{seen_kind, size_limit, size_fault};
 
 use crate::wire_fault::WireKind;
 use mdb_base::{KEY_LIMIT, VALUE_LIMIT};

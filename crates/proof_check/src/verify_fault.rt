@@ -1,6 +1,6 @@
 ghost use Rattle.std.specs.Prelude.{◌≡◌};
 ghost use Rattle.proof_check.specs.declared.verify_fault.VerifyFault.TheVariants.{NoMemory as no_memory};
-ghost use Rattle.proof_check.specs.Told.{of_source};
+ghost use Rattle.proof_check.specs.CheckResults.{of_source};
 
 use bit_keys::Id;
 use std::alloc::{AllocError, AllocFailed};

@@ -18,7 +18,7 @@ use Rattle.proof_model.specs.Paths.{IsProofNode}
 use Rattle.proof_model.specs.Proofs.{Pair}
 use Rattle.proof_model.specs.RangeLaws.{IsKey}
 use Rattle.proof_model.specs.RangeProofs.{pairs_in}
-use Rattle.proof_model.specs.Sound.{LiesIn, IsClaim}
+use Rattle.proof_model.specs.SoundProofs.{LiesIn, IsClaim}
 use Rattle.proof_model.proofs.AcceptedClaims.{accepted_claims_are_true}
 use Rattle.proof_model.proofs.AcceptedRanges.{none_unsorted, none_outside}
 use Rattle.proof_model.proofs.ChangedMaps.{pairs_in-of, key_after}

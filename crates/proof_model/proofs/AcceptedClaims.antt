@@ -27,7 +27,7 @@ use Rattle.proof_model.specs.Paths.{IsProofNode}
 use Rattle.proof_model.specs.Proofs.{Pair, PointProof}
 use Rattle.proof_model.specs.Claims.{Claim, nodes, in_order, claim_items, claim_strings, pair_of, point_claim}
 use Rattle.proof_model.specs.Refusals.{Refusal, PathOrder, PathsDiffer, Unsorted, Outside, Idle, RootDiffers, first_break, first_place, is_less, lies_outside, disagrees_with, path_break, or_else, path_refusal, root_refusal, refusal}
-use Rattle.proof_model.specs.Sound.{LiesIn, AreSorted, IsClaim, AcceptedClaimsAreTrue, AcceptedPointsAreTrue}
+use Rattle.proof_model.specs.SoundProofs.{LiesIn, AreSorted, IsClaim, AcceptedClaimsAreTrue, AcceptedPointsAreTrue}
 use Rattle.proof_model.proofs.ClaimItems.{told_items, Told, told, told_by_pair, told_outside, pair_told, claim_items_are_valid}
 use Rattle.proof_model.proofs.ItemOrder.{in_order-of}
 use Rattle.proof_model.proofs.SortedPairs.{same_pairs, AreSorted-filter, AreSorted-IsAscending}

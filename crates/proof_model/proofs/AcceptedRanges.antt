@@ -16,7 +16,7 @@ use Rattle.proof_model.specs.Proofs.{Pair}
 use Rattle.proof_model.specs.RangeLaws.{HasKey, IsRangeClaim, AcceptedRangesAreTrue, UncutRangesAreWhole}
 use Rattle.proof_model.specs.RangeProofs.{RangeProof, keys_of, pairs_in, reached_range, range_claim}
 use Rattle.proof_model.specs.Refusals.{Refusal, Unsorted, Outside, first_break, first_place, is_less, lies_outside, or_else, refusal}
-use Rattle.proof_model.specs.Sound.{LiesIn, AreSorted, IsClaim}
+use Rattle.proof_model.specs.SoundProofs.{LiesIn, AreSorted, IsClaim}
 use Rattle.proof_model.proofs.AcceptedClaims.{later, accepted_claims_are_true}
 use Rattle.proof_model.proofs.LastKeys.{Reach, whole, up_to, reach_of, all_reached, up_to-IsRange, holds-up_to}
 

@@ -17,7 +17,7 @@ use Rattle.range_model.specs.Ranges.{Range, Place, Before, Inside, After, Stradd
 use Rattle.proof_model.specs.Paths.{ProofNode, IsProofNode, IsChild}
 use Rattle.proof_model.specs.Proofs.{Pair}
 use Rattle.proof_model.specs.Claims.{shown_value, value_beside, leads_to, stub_beside, stubs_beside, items_beside, in_order, nodes, claim_items}
-use Rattle.proof_model.specs.Sound.{LiesIn, AreSorted, ClaimItemsAreValid}
+use Rattle.proof_model.specs.SoundProofs.{LiesIn, AreSorted, ClaimItemsAreValid}
 use Rattle.proof_model.proofs.ItemOrder.{in_order-of, in_order-in, in_order-IsOrdered}
 use Rattle.proof_model.proofs.SortedPairs.{one_pair}
 

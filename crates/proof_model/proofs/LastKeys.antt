@@ -11,8 +11,8 @@ use Rattle.trie_model.proofs.Lists.{Member-append-left, Member-append-right}
 use Rattle.range_model.specs.Ranges.{Range, IsRange, holds, is_from, is_up_to, are_in_order, bound_limit}
 use Rattle.proof_model.specs.Proofs.{Pair}
 use Rattle.proof_model.specs.RangeProofs.{keys_of, reached_range}
-use Rattle.proof_model.specs.Sound.{AreSorted}
-use Rattle.proof_model.specs.Takings.{last_key, end_or}
+use Rattle.proof_model.specs.SoundProofs.{AreSorted}
+use Rattle.proof_model.specs.TakenEntries.{last_key, end_or}
 use Rattle.proof_model.proofs.SortedPairs.{head_below}
 use Rattle.proof_model.proofs.TrueClaims.{both}
 

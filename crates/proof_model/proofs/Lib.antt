@@ -1,13 +1,13 @@
 pub mod WireFields
 pub mod WireNodes
 pub mod WirePoints
-pub mod Takings
+pub mod TakenEntries
 pub mod ItemOrder
 pub mod SortedPairs
 pub mod ClaimItems
 pub mod AcceptedClaims
 mod WorkedPoints
-pub mod Described
+pub mod DescribedValues
 pub mod PathKeys
 pub mod TruePaths
 pub mod RangeBounds

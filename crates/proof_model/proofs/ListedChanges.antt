@@ -14,8 +14,8 @@ use Rattle.proof_model.specs.Proofs.{Pair}
 use Rattle.proof_model.specs.RangeLaws.{IsKey}
 use Rattle.proof_model.specs.RangeProofs.{keys_of, reached_range}
 use Rattle.proof_model.specs.Refusals.{first_break, first_place, is_less, lies_outside}
-use Rattle.proof_model.specs.Sound.{AreSorted}
-use Rattle.proof_model.specs.Takings.{last_key, reached_by, end_or}
+use Rattle.proof_model.specs.SoundProofs.{AreSorted}
+use Rattle.proof_model.specs.TakenEntries.{last_key, reached_by, end_or}
 use Rattle.proof_model.proofs.AcceptedRanges.{in_turn-AreSorted, all_inside}
 use Rattle.proof_model.proofs.LastKeys.{Reach, whole, up_to, reach_of, up_to-IsRange, holds-up_to}
 use Rattle.proof_model.proofs.TrueClaims.{map-map, no_unsorted, none_outside}

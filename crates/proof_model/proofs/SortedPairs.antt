@@ -9,7 +9,7 @@ use Rattle.trie_model.proofs.Entries.{IsAscending}
 use Rattle.trie_model.proofs.KeySets.{All-of}
 use Rattle.trie_model.proofs.Lists.{All-member, Member-filter-of}
 use Rattle.proof_model.specs.Proofs.{Pair}
-use Rattle.proof_model.specs.Sound.{AreSorted}
+use Rattle.proof_model.specs.SoundProofs.{AreSorted}
 
 -- no key is below itself
 not_itself : (k : List ℕ) → bytes_cmp k k ≡ Less → ⊥

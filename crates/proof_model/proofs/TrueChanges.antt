@@ -24,13 +24,13 @@ use Rattle.proof_model.specs.Proofs.{Pair}
 use Rattle.proof_model.specs.RangeLaws.{IsKey}
 use Rattle.proof_model.specs.RangeProofs.{pairs_in}
 use Rattle.proof_model.specs.Refusals.{Refusal, Unsorted, Outside, Idle, first_break, first_place, is_less, lies_outside, or_else, path_refusal, root_refusal, refusal}
-use Rattle.proof_model.specs.Sound.{AreSorted}
-use Rattle.proof_model.specs.Takings.{taken, is_cut, end_or, IsLongest}
+use Rattle.proof_model.specs.SoundProofs.{AreSorted}
+use Rattle.proof_model.specs.TakenEntries.{taken, is_cut, end_or, IsLongest}
 use Rattle.proof_model.specs.TrueClaims.{path_to, IsTrueClaim}
 use Rattle.proof_model.proofs.ChangedMaps.{pairs_in-same, get-changed, get-unchanged, At, here, apart, at_or_apart}
 use Rattle.proof_model.proofs.LastKeys.{Last, none, one, last_of, AreSorted-front}
 use Rattle.proof_model.proofs.ListedChanges.{keyed, AreOrdered, rising_ordered, ordered_rising, not_unsorted, not_outside, ReachOf, reach-of, reach-IsRange, last_reach, reach-start}
-use Rattle.proof_model.proofs.Takings.{taken-IsLongest, cut_some, uncut_all}
+use Rattle.proof_model.proofs.TakenEntries.{taken-IsLongest, cut_some, uncut_all}
 use Rattle.proof_model.proofs.TrueClaims.{both, up_to-through, no_root_refusal, true_claim_paths, true_claim_root}
 use Rattle.proof_model.proofs.TruePoints.{turned}
 

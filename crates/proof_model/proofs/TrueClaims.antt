@@ -26,10 +26,10 @@ use Rattle.proof_model.specs.Paths.{shown_row}
 use Rattle.proof_model.specs.Proofs.{Pair}
 use Rattle.proof_model.specs.Claims.{Claim, items_beside, in_order, claim_items}
 use Rattle.proof_model.specs.Refusals.{Refusal, Unsorted, Outside, Idle, first_break, first_place, is_less, lies_outside, or_else, path_refusal, root_refusal, refusal}
-use Rattle.proof_model.specs.Sound.{AreSorted}
+use Rattle.proof_model.specs.SoundProofs.{AreSorted}
 use Rattle.proof_model.specs.TrueClaims.{path_to, IsReached, IsTrueClaim, TrueClaimsAreAccepted}
 use Rattle.proof_model.proofs.ClaimItems.{told_items}
-use Rattle.proof_model.proofs.Described.{id-drawn}
+use Rattle.proof_model.proofs.DescribedValues.{id-drawn}
 use Rattle.proof_model.proofs.PathKeys.{AreNodeKeys, IsChain, path_keys, path_keys-IsChain, path_keys-of, path_keys-root, path_keys-closed, path_keys-child}
 use Rattle.proof_model.proofs.RangeBounds.{IsBound}
 use Rattle.proof_model.proofs.SortedPairs.{AreSorted-filter, AreSorted-IsAscending}

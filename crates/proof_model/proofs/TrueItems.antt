@@ -25,7 +25,7 @@ use Rattle.proof_model.specs.Claims.{leads_to, items_beside, in_order}
 use Rattle.proof_model.specs.TrueClaims.{StubsStandAtNodes}
 use Rattle.proof_model.proofs.ItemOrder.{in_order-of, in_order-in}
 use Rattle.proof_model.proofs.ClaimItems.{Told, by_pair, by_value, by_child, told, told_items, all_outside, leads_to_none, slot_in_slot}
-use Rattle.proof_model.proofs.Described.{Drawn}
+use Rattle.proof_model.proofs.DescribedValues.{Drawn}
 use Rattle.proof_model.proofs.PathKeys.{Least, AreNodeKeys}
 use Rattle.proof_model.proofs.TruePaths.{node_keys-AreNodeKeys, shown}
 use Rattle.proof_model.proofs.ShownNodes.{child_shown, slot_shown, digest_shown, value_told, child_told, leads_to-of, Longest, longest}

@@ -15,12 +15,12 @@ use Rattle.range_model.specs.Ranges.{Range, holds, is_from, is_up_to}
 use Rattle.proof_model.specs.Proofs.{Pair, pair_size}
 use Rattle.proof_model.specs.RangeLaws.{TrueRangesAreAccepted}
 use Rattle.proof_model.specs.RangeProofs.{pairs_in, reached_range, range_proof, range_claim}
-use Rattle.proof_model.specs.Sound.{AreSorted}
-use Rattle.proof_model.specs.Takings.{taken, is_cut, end_or, IsLongest}
+use Rattle.proof_model.specs.SoundProofs.{AreSorted}
+use Rattle.proof_model.specs.TakenEntries.{taken, is_cut, end_or, IsLongest}
 use Rattle.proof_model.specs.TrueClaims.{path_to, IsReached}
 use Rattle.proof_model.proofs.LastKeys.{Last, none, one, last_of, AreSorted-front, holds-up_to}
 use Rattle.proof_model.proofs.SortedPairs.{same_pairs, AreSorted-filter, AreSorted-IsAscending}
-use Rattle.proof_model.proofs.Takings.{taken-IsLongest, cut_some, uncut_all}
+use Rattle.proof_model.proofs.TakenEntries.{taken-IsLongest, cut_some, uncut_all}
 use Rattle.proof_model.proofs.TrueClaims.{both, up_to-through, true_claims_are_accepted}
 use Rattle.proof_model.proofs.TruePoints.{turned}
 

@@ -13,7 +13,7 @@ use Rattle.history_model.specs.Worked.{first, third, ChangesOfThree}
 use Rattle.proof_model.specs.ChangeProofs.{proof_of_changes, is_idle, change_refusal}
 use Rattle.proof_model.specs.ChangeWire.{changes_form}
 use Rattle.proof_model.specs.Refusals.{Idle, refusal, path_refusal}
-use Rattle.proof_model.specs.Takings.{taken, is_cut}
+use Rattle.proof_model.specs.TakenEntries.{taken, is_cut}
 use Rattle.proof_model.specs.WorkedChanges.{bare_changes, put_a, delete, OneChange, NoChange, IdleIsRefused, TwiceIsRefused, BesideIsRefused}
 use Rattle.proof_model.proofs.ChangedMaps.{get-at, get-beside}
 

@@ -19,7 +19,7 @@ use Rattle.proof_model.specs.Proofs.{Pair, pair_size}
 use Rattle.proof_model.specs.RangeProofs.{RangeProof, pairs_in, reached_range, range_proof}
 use Rattle.proof_model.specs.RangeWire.{range_form, range_of}
 use Rattle.proof_model.specs.Refusals.{RootDiffers, same_bytes, refusal, path_refusal, root_refusal}
-use Rattle.proof_model.specs.Takings.{taken, is_cut}
+use Rattle.proof_model.specs.TakenEntries.{taken, is_cut}
 use Rattle.proof_model.specs.TrueClaims.{path_to}
 use Rattle.proof_model.specs.Wire.{path_form, byte_at, head_at}
 use Rattle.proof_model.specs.WorkedRanges.{shown_path, gap, UnboundedRange, OneKeyRange, GapRange, CutRange, SwappedIsRefused, OutsideIsRefused, LeftOutIsRefused, BadFlagIsTold}

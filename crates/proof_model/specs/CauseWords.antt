@@ -2,7 +2,7 @@
 use Rattle.std.specs.Prelude.{ℕ, List, ◌++◌, codes, decimal}
 use Rattle.hex.specs.Hex.{encode_lower}
 use Rattle.proof_model.specs.Refusals.{Refusal, Unsorted, Outside, PathOrder, PathsDiffer, Idle, RootDiffers}
-use Rattle.proof_model.specs.Checked.{Cause, NotRead, NotAccepted}
+use Rattle.proof_model.specs.CheckedBytes.{Cause, NotRead, NotAccepted}
 
 abbrev pub refusal_words : Refusal → List ℕ
 refusal_words (Unsorted i) = codes "unsorted " ++ decimal i

@@ -6,7 +6,7 @@ use Rattle.range_model.specs.Ranges.{Range}
 use Rattle.batch_model.specs.Batch.{Change, after_batch}
 use Rattle.history_model.specs.Changes.{changes, change_size, same_value}
 use Rattle.proof_model.specs.Paths.{ProofNode}
-use Rattle.proof_model.specs.Takings.{taken, is_cut, reached_by}
+use Rattle.proof_model.specs.TakenEntries.{taken, is_cut, reached_by}
 use Rattle.proof_model.specs.Claims.{Claim}
 use Rattle.proof_model.specs.RangeProofs.{pairs_in}
 use Rattle.proof_model.specs.Refusals.{Refusal, first_place, refusal}

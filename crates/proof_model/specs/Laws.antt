@@ -4,7 +4,7 @@ use Rattle.base_model.specs.Bytes.{AreBytes}
 use Rattle.trie_model.specs.Bits.{IsWidth}
 use Rattle.trie_model.specs.Maps.{Limits}
 use Rattle.trie_model.specs.StoredNode.{FitsLimits}
-use Rattle.proof_model.specs.Takings.{taken, IsLongest}
+use Rattle.proof_model.specs.TakenEntries.{taken, IsLongest}
 use Rattle.proof_model.specs.Proofs.{Pair, PointProof, pair_size}
 use Rattle.proof_model.specs.Wire.{IsPoint, point_form, point_of}
 use Rattle.proof_model.specs.RangeProofs.{RangeProof}

@@ -1,12 +1,12 @@
 pub mod Paths
-pub mod Takings
+pub mod TakenEntries
 pub mod Proofs
 pub mod Claims
 pub mod Refusals
 pub mod Wire
-pub mod Checked
+pub mod CheckedBytes
 pub mod Laws
-pub mod Sound
+pub mod SoundProofs
 pub mod Worked
 pub mod CauseWords
 pub mod TrueClaims

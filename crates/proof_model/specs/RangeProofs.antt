@@ -6,7 +6,7 @@ use Rattle.trie_model.specs.Maps.{Map}
 use Rattle.range_model.specs.Ranges.{Range, holds}
 use Rattle.proof_model.specs.Paths.{ProofNode}
 use Rattle.proof_model.specs.Proofs.{Pair, pair_size}
-use Rattle.proof_model.specs.Takings.{taken, is_cut, reached_by}
+use Rattle.proof_model.specs.TakenEntries.{taken, is_cut, reached_by}
 use Rattle.proof_model.specs.Claims.{Claim}
 use Rattle.proof_model.specs.Refusals.{Refusal, refusal}
 use Rattle.proof_model.specs.TrueClaims.{path_to}

@@ -6,7 +6,7 @@
 #![tactic(auto)]
 
 ghost use Rattle.proof_model.specs.Laws.{TakenIsLongest, SpelledPointsAreRead, ReadPointsAreSpelled, SpelledRangesAreRead, ReadRangesAreSpelled, SpelledChangesAreRead, ReadChangesAreSpelled};
-ghost use Rattle.proof_model.specs.Sound.{ClaimItemsAreValid, AcceptedClaimsAreTrue, AcceptedPointsAreTrue};
+ghost use Rattle.proof_model.specs.SoundProofs.{ClaimItemsAreValid, AcceptedClaimsAreTrue, AcceptedPointsAreTrue};
 ghost use Rattle.proof_model.specs.TrueClaims.{DescribedHasTheRoot, TrueClaimsAreAccepted, TruePointsAreAccepted};
 ghost use Rattle.proof_model.specs.Worked.{OneKeyPoints, TwoKeyPoint, ChildPoint, DoubledIsRefused, OneKeyIsAccepted};
 ghost use Rattle.proof_model.specs.RangeLaws.{AcceptedRangesAreTrue, UncutRangesAreWhole, TrueRangesAreAccepted};

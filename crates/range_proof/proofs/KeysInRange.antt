@@ -14,11 +14,11 @@ use Rattle.range_model.specs.Ranges.{Range, holds, is_from, is_up_to}
 use Rattle.trie_items.specs.Sources.{is_ahead, next_key, map_keys}
 use Rattle.proof_model.specs.Proofs.{Pair}
 use Rattle.proof_model.specs.RangeProofs.{pairs_in}
-use Rattle.proof_model.specs.Sound.{AreSorted}
+use Rattle.proof_model.specs.SoundProofs.{AreSorted}
 use Rattle.proof_model.proofs.SortedPairs.{head_below, AreSorted-IsAscending}
 use Rattle.proof_model.proofs.TrueClaims.{le-through, up_to-through}
 use Rattle.proof_model.proofs.TruePoints.{turned}
-use Rattle.range_proof.specs.Taking.{in_range, least_of}
+use Rattle.range_proof.specs.TakenKeys.{in_range, least_of}
 
 -- the key of the first of some pairs
 abbrev pub first_key : List Pair → Option (List ℕ)

@@ -1,4 +1,4 @@
 pub mod KeysInRange
-pub mod Taken
-pub mod Reached
-pub mod Verified
+pub mod TakenPairs
+pub mod CheckedRange
+pub mod AcceptedProofs

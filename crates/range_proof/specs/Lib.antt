@@ -1,2 +1,2 @@
-pub mod Taking
-pub mod Reaching
+pub mod TakenKeys
+pub mod ReachedRanges

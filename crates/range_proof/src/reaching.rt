@@ -4,8 +4,8 @@ ghost use Rattle.std.specs.Option.{option_copied};
 ghost use Rattle.trie_model.specs.Maps.{key_limit, limits};
 ghost use Rattle.range_model.specs.Ranges.{IsRange, holds};
 ghost use Rattle.proof_model.specs.RangeLaws.{HasKey};
-ghost use Rattle.proof_model.specs.Takings.{end_or};
-ghost use Rattle.range_proof.specs.Reaching.{StandsFor, or_asked};
+ghost use Rattle.proof_model.specs.TakenEntries.{end_or};
+ghost use Rattle.range_proof.specs.ReachedRanges.{StandsFor, or_asked};
 
 use bit_keys::{NoMemory, Range};
 use proof_check::RangeProof;

@@ -3,7 +3,7 @@ ghost use Rattle.trie_model.specs.Maps.{Map};
 ghost use Rattle.trie_items.specs.Sources.{Answers, next_key};
 ghost use Rattle.proof_model.specs.Proofs.{pair_size};
 ghost use Rattle.proof_model.specs.RangeProofs.{pairs_in};
-ghost use Rattle.range_proof.specs.Taking.{IsTaken, in_range, least_of, is_taken};
+ghost use Rattle.range_proof.specs.TakenKeys.{IsTaken, in_range, least_of, is_taken};
 
 use bit_keys::Range;
 use proof_check::Pair;

@@ -5,8 +5,8 @@ ghost use Rattle.bit_keys.specs.Branch.{width_of};
 ghost use Rattle.proof_model.specs.Claims.{claim_items};
 ghost use Rattle.proof_model.specs.RangeLaws.{IsRangeClaim, RangeBreak};
 ghost use Rattle.proof_model.specs.RangeProofs.{pairs_in, range_claim, range_proof, range_refusal, reached_range};
-ghost use Rattle.proof_check.specs.Told.{Tells, Costs};
-ghost use Rattle.range_proof.specs.Reaching.{StandsFor};
+ghost use Rattle.proof_check.specs.CheckResults.{Tells, Costs};
+ghost use Rattle.range_proof.specs.ReachedRanges.{StandsFor};
 
 use crate::reaching::shorter;
 use bit_keys::{Branch, Id, Range};

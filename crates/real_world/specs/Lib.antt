@@ -1,2 +1,2 @@
-pub mod Counts
-pub mod Untold
+pub mod FailureCounts
+pub mod UntoldStreams

@@ -3,8 +3,8 @@ ghost use Rattle.std.specs.Prelude.{◌≡◌, ◌≤◌, None};
 ghost use Rattle.std.specs.Io.{ReadsAtMost, WritesAtMost};
 ghost use Rattle.std.specs.Io.KnownBytes.{ReadConsumes, WriteAppends};
 ghost use Rattle.base_model.specs.Faults.{HasCause, TookNothing, TellsAlike, CountsFaults, one_more};
-ghost use Rattle.real_world.specs.Counts.{CountsWrites};
-ghost use Rattle.real_world.specs.Untold.{untold};
+ghost use Rattle.real_world.specs.FailureCounts.{CountsWrites};
+ghost use Rattle.real_world.specs.UntoldStreams.{untold};
 
 use mdb_base::{Failed, Sink, Source};
 use std::io::{Read, Write};

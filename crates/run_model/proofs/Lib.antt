@@ -2,6 +2,6 @@ pub mod RootDecided
 pub mod WorkedRuns
 mod ReadRanges
 pub mod RangeWords
-pub mod Verifying
-pub mod Telling
+pub mod VerifyLines
+pub mod ToldThings
 pub mod PrintedText

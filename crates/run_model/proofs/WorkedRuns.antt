@@ -19,7 +19,7 @@ use Rattle.text_model.specs.FirstBad.{first_told}
 use Rattle.text_model.specs.ReadLine.{Batch, Verify, Line, Put, Del, VerifyChanges, read_line}
 use Rattle.text_model.specs.MapOfLines.{after_read, after_lines, map_of_lines}
 use Rattle.text_model.specs.Texts.{root_text, range_text}
-use Rattle.proof_model.specs.Checked.{NotAccepted, unless_refused, point_checked, range_checked, change_checked}
+use Rattle.proof_model.specs.CheckedBytes.{NotAccepted, unless_refused, point_checked, range_checked, change_checked}
 use Rattle.proof_model.specs.ChangeWire.{changes_of, change_at}
 use Rattle.proof_model.specs.RangeWire.{range_of, pair_at}
 use Rattle.proof_model.specs.Claims.{claim_items}
@@ -32,7 +32,7 @@ use Rattle.base_model.specs.Fields.{bytes_at, flag_at, number_at}
 use Rattle.base_model.specs.ReadUvarint.{uvarint_read}
 use Rattle.std.specs.Fmt.{digits}
 use Rattle.range_model.specs.Ranges.{Range, everything, holds}
-use Rattle.session_model.specs.Named.{range_proof_of}
+use Rattle.session_model.specs.MapsByRoot.{range_proof_of}
 use Rattle.session_model.proofs.NamedMaps.{itself, by_zeros}
 use Rattle.session_model.proofs.WorkedScripts.{empty_range, entries-empty}
 use Rattle.run_model.specs.Outcome.{Outcome}

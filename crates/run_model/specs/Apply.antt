@@ -5,7 +5,7 @@ use Rattle.disk_model.specs.Words.{TellsImages}
 use Rattle.trie_model.specs.Maps.{Map}
 use Rattle.store_model.specs.Refusals.{Refusal}
 use Rattle.session_model.specs.Script.{Played, script, text_of}
-use Rattle.run_model.specs.Outside.{Outside}
+use Rattle.run_model.specs.OutsideThings.{Outside}
 use Rattle.run_model.specs.End.{End, Done, NotOpened}
 use Rattle.run_model.specs.Outcome.{Outcome, PrintsNothing}
 use Rattle.run_model.specs.Script.{ScriptRuns, Survives, end_of_stop}

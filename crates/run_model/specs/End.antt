@@ -2,7 +2,7 @@
 use Rattle.std.specs.Prelude.{ℕ, List}
 use Rattle.text_model.specs.Texts.{LimitKind, done_text, word_text, line_text, proof_refused_text, not_held_text, no_store_text, branch_text, damaged_text, limit_text, read_text, write_text, disk_text, no_memory_text}
 use Rattle.store_model.specs.Refusals.{Refusal, NotAStore, BranchDiffers, Damaged}
-use Rattle.proof_model.specs.Checked.{Cause}
+use Rattle.proof_model.specs.CheckedBytes.{Cause}
 use Rattle.proof_model.specs.CauseWords.{cause_words}
 
 pub data End : Type 0 where

@@ -3,10 +3,10 @@ use Rattle.std.specs.Prelude.{ℕ, List}
 use Rattle.std.specs.FinMap as map_of
 use Rattle.trie_model.specs.Maps.{Map}
 use Rattle.text_model.specs.Texts.{value_text}
-use Rattle.run_model.specs.Outside.{Outside}
+use Rattle.run_model.specs.OutsideThings.{Outside}
 use Rattle.run_model.specs.End.{End, Done}
 use Rattle.run_model.specs.Outcome.{Outcome}
-use Rattle.run_model.specs.Reading.{ReadRuns}
+use Rattle.run_model.specs.ReadCommands.{ReadRuns}
 
 -- the outcome on a store that stands for this map: the value, or that there is none
 abbrev pub get_outcome : List ℕ → Map → Outcome

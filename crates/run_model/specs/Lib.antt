@@ -1,4 +1,4 @@
-pub mod Outside
+pub mod OutsideThings
 pub mod Command
 pub mod End
 pub mod Outcome
@@ -6,7 +6,7 @@ pub mod Root
 pub mod Script
 pub mod Store
 pub mod Apply
-pub mod Reading
+pub mod ReadCommands
 pub mod Get
 pub mod Prove
 pub mod Range

@@ -5,7 +5,7 @@ use Rattle.base_model.specs.Faults.{Rose}
 use Rattle.base_model.specs.Streams.{AppendsPrefix}
 use Rattle.trie_model.specs.Maps.{Map}
 use Rattle.store_model.specs.Refusals.{Refusal}
-use Rattle.run_model.specs.Outside.{Outside}
+use Rattle.run_model.specs.OutsideThings.{Outside}
 use Rattle.run_model.specs.End.{End, NoMemory}
 
 pub record Outcome : Type 0 where

@@ -4,11 +4,11 @@ use Rattle.trie_model.specs.Maps.{Map}
 use Rattle.range_model.specs.Ranges.{Range}
 use Rattle.text_model.specs.Texts.{range_text}
 use Rattle.text_model.specs.Words.{RootWord}
-use Rattle.session_model.specs.Named.{holds_first, range_proved}
-use Rattle.run_model.specs.Outside.{Outside}
+use Rattle.session_model.specs.MapsByRoot.{holds_first, range_proved}
+use Rattle.run_model.specs.OutsideThings.{Outside}
 use Rattle.run_model.specs.End.{End, Done, NotHeld}
 use Rattle.run_model.specs.Outcome.{Outcome, silent}
-use Rattle.run_model.specs.Reading.{ReadRuns}
+use Rattle.run_model.specs.ReadCommands.{ReadRuns}
 
 -- the line of a range proof, where there is a map that it is of
 abbrev pub range_proof_outcome : Option (List ℕ) → Outcome

@@ -5,7 +5,7 @@ use Rattle.trie_model.specs.Maps.{root}
 use Rattle.text_model.specs.Lines.{input_limit, settled_lines, lines_within}
 use Rattle.text_model.specs.MapOfLines.{map_of_lines, bad_line}
 use Rattle.text_model.specs.Texts.{LimitKind, Input, root_text}
-use Rattle.run_model.specs.Outside.{Outside}
+use Rattle.run_model.specs.OutsideThings.{Outside}
 use Rattle.run_model.specs.End.{End, Done, BadLine, Limit, Read, Write}
 use Rattle.run_model.specs.Outcome.{Outcome, silent, EndsAs, Prints, PrintsPrefix, PrintsNothing, IsUndecided}
 

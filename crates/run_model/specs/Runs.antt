@@ -6,8 +6,8 @@ use Rattle.trie_model.specs.Maps.{Map, limits}
 use Rattle.text_model.specs.Lines.{input_limit}
 use Rattle.text_model.specs.Texts.{Input}
 use Rattle.store_model.specs.Refusals.{Refusal, Refused}
-use Rattle.proof_model.specs.Checked.{Cause}
-use Rattle.run_model.specs.Outside.{DiskSeen, Outside}
+use Rattle.proof_model.specs.CheckedBytes.{Cause}
+use Rattle.run_model.specs.OutsideThings.{DiskSeen, Outside}
 use Rattle.range_model.specs.Ranges.{Range as Bounds}
 use Rattle.text_model.specs.Words.{RootWord}
 use Rattle.run_model.specs.Command.{Command, Root, Apply, Get, Prove, Range, Changes, Verify, Job, job_of, uses_store, names_map, checks_proofs}

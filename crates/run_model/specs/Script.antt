@@ -9,7 +9,7 @@ use Rattle.trie_model.specs.Maps.{Map, limits}
 use Rattle.store_model.specs.Journal.{Stands}
 use Rattle.session_model.specs.Session.{Step, Stop, BadLine as stopped_by_line, Limit as stopped_by_limit}
 use Rattle.session_model.specs.Script.{Played, script, decided, text_of, after_steps}
-use Rattle.run_model.specs.Outside.{Outside}
+use Rattle.run_model.specs.OutsideThings.{Outside}
 use Rattle.run_model.specs.End.{End, Done, BadLine, Limit, Read, Disk}
 
 -- ---- what a crash leaves

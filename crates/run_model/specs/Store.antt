@@ -4,7 +4,7 @@ use Rattle.base_model.specs.Faults.{Rose}
 use Rattle.disk_model.specs.Words.{TellsContents}
 use Rattle.trie_model.specs.Maps.{Map, limits}
 use Rattle.store_model.specs.Refusals.{Refusal, Refused, Found}
-use Rattle.run_model.specs.Outside.{DiskSeen, Outside}
+use Rattle.run_model.specs.OutsideThings.{DiskSeen, Outside}
 use Rattle.run_model.specs.End.{End, NotOpened}
 use Rattle.run_model.specs.Outcome.{Outcome, silent}
 

@@ -23,8 +23,8 @@ use Rattle.proof_model.specs.RangeProofs.{RangeProof, pairs_in, reached_range}
 use Rattle.proof_model.specs.RangeLaws.{RangeBreak}
 use Rattle.proof_model.specs.ChangeProofs.{ChangeProof, changes_reach}
 use Rattle.proof_model.specs.ChangeLaws.{ChangeBreak}
-use Rattle.proof_model.specs.Checked.{Cause, point_checked, range_checked, change_checked}
-use Rattle.run_model.specs.Outside.{Outside}
+use Rattle.proof_model.specs.CheckedBytes.{Cause, point_checked, range_checked, change_checked}
+use Rattle.run_model.specs.OutsideThings.{Outside}
 use Rattle.run_model.specs.End.{End, Done, BadLine, NotOpened, VerifyRefused, Limit, Read, Disk}
 use Rattle.run_model.specs.Outcome.{Outcome, EndsAs, Prints, PrintsPrefix, IsUndecided}
 use Rattle.run_model.specs.Store.{IsFound, NeedsStore, OnMap}

@@ -6,7 +6,7 @@ use Rattle.sha2.specs.Sha256.{sha256}
 use Rattle.hex.specs.Hex.{encode_lower}
 use Rattle.trie_model.specs.Maps.{Map}
 use Rattle.store_model.specs.Refusals.{Refusal}
-use Rattle.proof_model.specs.Checked.{NotRead, NotAccepted}
+use Rattle.proof_model.specs.CheckedBytes.{NotRead, NotAccepted}
 use Rattle.proof_model.specs.Refusals.{Unsorted, Idle}
 use Rattle.proof_model.specs.Wire.{Flag, Kind}
 use Rattle.run_model.specs.End.{Done, BadWords, BadLine, NotOpened, VerifyRefused, NotHeld}

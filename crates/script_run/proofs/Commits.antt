@@ -20,22 +20,22 @@ use Rattle.session_model.specs.Refusals.{cause_words, take_refused}
 use Rattle.session_model.specs.Session.{Session, Step, Stop, Limit, committed, commit_step, commit, taken, taken_map, take_step, take, refuses, or_limit}
 use Rattle.mdb_core.specs.Stores.{DbState, Keeps, is_failed}
 use Rattle.mdb_core.specs.Places.{Refuses}
-use Rattle.mdb_core.specs.Applies.{MayNumber, Applies, ApplyFails}
+use Rattle.mdb_core.specs.AppliedBatches.{MayNumber, Applies, ApplyFails}
 use Rattle.mdb_core.specs.Proposals.{MayTake, Takes, TakeFails}
-use Rattle.mdb_core.proofs.KeptStores.{kept_stands, kept_keys}
+use Rattle.mdb_core.proofs.StoreFiles.{kept_stands, kept_keys}
 use Rattle.mdb_core.specs.declared.fault.DbFault.{DbFault}
 use Rattle.mdb_core.specs.declared.fault.DbFault.TheVariants.{Disk as DiskFault, NotAStore, BranchDiffers, Damaged, Failed, Unknown, NotLive, NotHeld, TooMany, TooDeep, TooHeavy, TooLarge, NotParent, Full, NoMemory as NoMemoryFault}
 use Rattle.script_run.specs.declared.end.SessionEnd.{SessionEnd}
 use Rattle.script_run.specs.Ends.{end_of, fault_end, cause_told, IsTextOf, StepCause}
-use Rattle.session_model.specs.Named.{holds_next}
+use Rattle.session_model.specs.MapsByRoot.{holds_next}
 use Rattle.store_opening.specs.Opening.{holding_of}
-use Rattle.script_run.specs.Steps.{IsAt, IsMade, IsQuiet, RunsUnprinted, KeptUnprinted, KeptPrinting, played, session_of}
+use Rattle.script_run.specs.ScriptSteps.{IsAt, IsMade, IsQuiet, RunsUnprinted, KeptUnprinted, KeptPrinting, played, session_of}
 use Rattle.script_run.proofs.Refusals.{words_told, refused_quiet}
-use Rattle.script_run.proofs.MadeLines.{made_text, unmade_text, Went}
+use Rattle.script_run.proofs.LinesToPrint.{made_text, unmade_text, Went}
 use Rattle.script_run.proofs.KeptFiles.{kept_leaves}
-use Rattle.script_run.proofs.Written.{written, printing, begun}
+use Rattle.script_run.proofs.WrittenBatches.{written, printing, begun}
 use Rattle.run_model.specs.Script.{HasSteps}
-use Rattle.mdb_journal.specs.Moves.{AreSynced}
+use Rattle.mdb_journal.specs.DiskMoves.{AreSynced}
 use Rattle.value_store.specs.Writes.{StandEither}
 
 -- ---- a pending batch

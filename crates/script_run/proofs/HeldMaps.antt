@@ -9,26 +9,26 @@ use Rattle.history_model.specs.Changes.{changes, change_size}
 use Rattle.history_model.specs.Between.{ChangesRefusal, changes_between}
 use Rattle.history_model.specs.Held.{held, until_root, with_root}
 use Rattle.proof_model.specs.Refusals.{same_bytes}
-use Rattle.proof_model.specs.Takings.{taken as taken_of}
+use Rattle.proof_model.specs.TakenEntries.{taken as taken_of}
 use Rattle.proof_model.specs.ChangeProofs.{ChangeProof, proof_of_changes}
 use Rattle.proof_model.specs.ChangeWire.{changes_form}
 use Rattle.text_model.specs.Texts.{changes_text}
 use Rattle.text_model.specs.Words.{RootWord}
-use Rattle.session_model.specs.Named.{holds_next, root_meant, named, and_later, leading_to, between, changes_proof_of, changes_proved}
+use Rattle.session_model.specs.MapsByRoot.{holds_next, root_meant, named, and_later, leading_to, between, changes_proof_of, changes_proved}
 use Rattle.session_model.specs.Laws.{AreTold}
 use Rattle.session_model.proofs.NamedMaps.{changes_are_named}
-use Rattle.change_history.specs.Told.{Tells}
+use Rattle.change_history.specs.ToldChanges.{Tells}
 use Rattle.change_history.specs.declared.telling.Taken.{Taken}
 use Rattle.change_history.specs.declared.fault.HistoryFault.{HistoryFault}
 use Rattle.change_history.specs.declared.fault.HistoryFault.TheVariants as faults
 use Rattle.disk_model.specs.Files.{Files}
-use Rattle.change_history.proofs.Remembered.{root_names}
+use Rattle.change_history.proofs.ToldMaps.{root_names}
 use Rattle.mdb_core.specs.Stores.{DbState, Keeps, held_maps}
 use Rattle.mdb_core.specs.Places.{is_named}
 use Rattle.mdb_core.specs.Spots.{IsSpotOf}
 use Rattle.mdb_core.specs.declared.spot.Spot.{Spot}
 use Rattle.mdb_core.specs.declared.store.At.TheVariants.{Root}
-use Rattle.script_run.specs.Naming.{IsSpotNamed, IsTakenBetween, IsProofBetween}
+use Rattle.script_run.specs.NamedSpots.{IsSpotNamed, IsTakenBetween, IsProofBetween}
 use Rattle.store_opening.specs.Opening.{holding_of}
 
 -- one map more, of which the limits stay

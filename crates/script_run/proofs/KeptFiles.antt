@@ -3,8 +3,8 @@ use Rattle.disk_model.specs.Files.{Files}
 use Rattle.disk_model.specs.Moments.{Moments, LeavesOnly}
 use Rattle.trie_model.specs.Maps.{Map, limits}
 use Rattle.store_model.specs.Journal.{Stands}
-use Rattle.mdb_journal.specs.Moves.{AreSynced}
-use Rattle.mdb_journal.proofs.Opened.{synced_leave, known_hold}
+use Rattle.mdb_journal.specs.DiskMoves.{AreSynced}
+use Rattle.mdb_journal.proofs.OpenedFiles.{synced_leave, known_hold}
 use Rattle.mdb_core.specs.Stores.{DbState, Keeps}
 
 -- where they are synced, it stands for the map of the store

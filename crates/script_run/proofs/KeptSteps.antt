@@ -12,7 +12,7 @@ use Rattle.trie_model.specs.Maps.{Map, limits}
 use Rattle.store_model.specs.Journal.{Stands}
 use Rattle.session_model.specs.Session.{Step}
 use Rattle.session_model.specs.Script.{text_of, after_steps}
-use Rattle.session_model.proofs.Playing.{text_of-append, after_steps-append}
+use Rattle.session_model.proofs.PlayedLines.{text_of-append, after_steps-append}
 use Rattle.run_model.specs.Script.{HasSteps, Keeps}
 use Rattle.run_model.proofs.PrintedText.{nothing_yet, then_prefix, same_prefix}
 

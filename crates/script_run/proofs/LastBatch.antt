@@ -14,9 +14,9 @@ use Rattle.session_model.proofs.MapsOfScripts.{Moves, commit-map}
 use Rattle.session_model.proofs.Outcomes.{or_limit-ok}
 use Rattle.run_model.specs.End.{End, Done}
 use Rattle.mdb_core.specs.Stores.{DbState}
-use Rattle.script_run.specs.Steps.{IsAt, IsDone, PartRuns, played, still}
+use Rattle.script_run.specs.ScriptSteps.{IsAt, IsDone, PartRuns, played, still}
 use Rattle.run_model.proofs.PrintedText.{same_text, whole}
-use Rattle.mdb_core.proofs.KeptStores.{kept_stands}
+use Rattle.mdb_core.proofs.StoreFiles.{kept_stands}
 use Rattle.script_run.proofs.KeptSteps.{all_done, fewer}
 
 -- ---- what it makes of a script

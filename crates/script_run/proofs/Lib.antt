@@ -1,11 +1,11 @@
 pub mod WaitingChanges
 pub mod KeptFiles
 pub mod KeptSteps
-pub mod Stopping
-pub mod Parts
-pub mod Written
+pub mod StoppedParts
+pub mod ScriptParts
+pub mod WrittenBatches
 pub mod HeldMaps
-pub mod MadeLines
+pub mod LinesToPrint
 pub mod Refusals
 pub mod Commits
 pub mod Views

@@ -5,7 +5,7 @@ use Rattle.trie_model.specs.Maps.{Map}
 use Rattle.range_model.specs.Ranges.{Range}
 use Rattle.proof_model.specs.Proofs.{Pair, pair_size}
 use Rattle.proof_model.specs.RangeProofs.{range_proof, proof_of_pairs, pairs_in}
-use Rattle.proof_model.specs.Takings.{taken}
+use Rattle.proof_model.specs.TakenEntries.{taken}
 
 max_one : (n : ℕ) → max (suc n) 1 ≡ suc n
 max_one n = omega arith

@@ -12,17 +12,17 @@ use Rattle.session_model.specs.Session.{Session, Step, BadLine, pend, quiet, rea
 use Rattle.run_model.specs.End.{BadLine as BadLineEnd, NoMemory}
 use Rattle.run_model.specs.Script.{Keeps as KeepsSteps}
 use Rattle.mdb_base.specs.Batches.{change_of}
-use Rattle.mdb_journal.specs.Moves.{AreSynced}
+use Rattle.mdb_journal.specs.DiskMoves.{AreSynced}
 use Rattle.mdb_core.specs.Stores.{DbState, Keeps}
 use Rattle.script_run.specs.declared.end.SessionEnd.{SessionEnd}
 use Rattle.script_run.specs.declared.end.SessionEnd.TheVariants.{Done as done, BadLine as bad_line, Limit as limit, Damaged as damaged_at, Read as failed_read, Write as failed_write, Disk as failed_disk, NoMemory as no_memory}
 use Rattle.script_run.specs.Ends.{end_of, IsTextOf}
-use Rattle.script_run.specs.Steps.{IsAt, IsQuiet, PartRuns, IsUnread, played, session_of}
-use Rattle.mdb_core.proofs.KeptStores.{kept_stands}
+use Rattle.script_run.specs.ScriptSteps.{IsAt, IsQuiet, PartRuns, IsUnread, played, session_of}
+use Rattle.mdb_core.proofs.StoreFiles.{kept_stands}
 use Rattle.script_run.proofs.KeptFiles.{kept_leaves}
 use Rattle.script_run.proofs.KeptSteps.{idle}
 use Rattle.script_run.proofs.Refusals.{text_quiet}
-use Rattle.script_run.proofs.Stopping.{stopped_runs, refused_runs, memory_no_stop}
+use Rattle.script_run.proofs.StoppedParts.{stopped_runs, refused_runs, memory_no_stop}
 
 -- nothing is done
 pub skip_quiet : (m : Map) (db : DbState) (pending : List Change) (files : Files) (r : Result (String Global) SessionEnd) → Keeps db m files → IsTextOf [] r → IsQuiet (Ok (session_of m db pending, quiet)) r db pending files

@@ -13,7 +13,7 @@ use Rattle.mdb_core.specs.Stores.{DbState}
 use Rattle.mdb_core.specs.Places.{fault_of_refusal}
 use Rattle.script_run.specs.declared.end.SessionEnd.{SessionEnd}
 use Rattle.script_run.specs.Ends.{cause_told, IsTextOf}
-use Rattle.script_run.specs.Steps.{IsAt, IsQuiet}
+use Rattle.script_run.specs.ScriptSteps.{IsAt, IsQuiet}
 
 -- the words of a refusal are told
 pub words_told : (r : Refusal) → cause_told (fault_of_refusal r) ≡ Some (cause_words r)

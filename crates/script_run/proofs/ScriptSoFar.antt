@@ -15,24 +15,24 @@ use Rattle.store_model.specs.Journal.{Stands}
 use Rattle.session_model.specs.Session.{Session, Step, Stop, BadLine, Limit, start, step}
 use Rattle.session_model.specs.Script.{Played, then_play, play, ended, script, text_of, after_steps}
 use Rattle.session_model.proofs.MapsOfScripts.{play-map}
-use Rattle.session_model.proofs.Playing.{followed, play-done, play-more, text_of-append}
-use Rattle.run_model.specs.Outside.{Outside, DiskSeen, outside}
+use Rattle.session_model.proofs.PlayedLines.{followed, play-done, play-more, text_of-append}
+use Rattle.run_model.specs.OutsideThings.{Outside, DiskSeen, outside}
 use Rattle.run_model.specs.End.{End, Done, BadLine as BadLineEnd, Limit as LimitEnd, Read, NoMemory}
 use Rattle.run_model.specs.Script.{HasSteps, IsStop, Keeps as KeepsSteps, DecideNothing, ScriptRuns}
 use Rattle.batch_text.specs.Stream.{Stream, Gives, TakesLine, NoMore, Past, FirstIsOverlong, BeginsOverlong, Pulls, SettlesNothing}
 use Rattle.batch_text.specs.declared.reader.ReaderFault.{ReaderFault}
 use Rattle.batch_text.specs.declared.reader.ReaderFault.TheVariants.{Read as ReadFault, Limit as LimitFault, Overlong, NoMemory as NoMemoryFault}
-use Rattle.mdb_journal.specs.Moves.{AreSynced}
+use Rattle.mdb_journal.specs.DiskMoves.{AreSynced}
 use Rattle.mdb_core.specs.Stores.{DbState, Keeps}
 use Rattle.script_run.specs.Ends.{end_of, reader_end}
 use Rattle.store_opening.specs.Opening.{IsJustOpened}
-use Rattle.script_run.specs.Steps.{IsAt, IsDone, PartRuns, AllDone, all_lines, played}
+use Rattle.script_run.specs.ScriptSteps.{IsAt, IsDone, PartRuns, AllDone, all_lines, played}
 use Rattle.run_model.proofs.PrintedText.{nothing, and_then, same_text, whole}
-use Rattle.mdb_core.proofs.KeptStores.{kept_stands}
+use Rattle.mdb_core.proofs.StoreFiles.{kept_stands}
 use Rattle.script_run.proofs.KeptFiles.{kept_leaves}
 use Rattle.script_run.proofs.KeptSteps.{all_done, fewer, all_kept, meanwhile_on}
-use Rattle.script_run.proofs.Stopping.{refused_runs, read_no_stop, memory_no_stop}
-use Rattle.script_run.proofs.Parts.{Begins, begins_both, begins_steps, begins_behind, begins_rest, begins_script, runs_behind, runs_of_more, keeps_behind, keeps_of_more}
+use Rattle.script_run.proofs.StoppedParts.{refused_runs, read_no_stop, memory_no_stop}
+use Rattle.script_run.proofs.ScriptParts.{Begins, begins_both, begins_steps, begins_behind, begins_rest, begins_script, runs_behind, runs_of_more, keeps_behind, keeps_of_more}
 use Rattle.script_run.proofs.UsedBytes.{Used, none_used, line_used, read_undecided}
 
 -- what the code holds, and what is told of the output and of the disk

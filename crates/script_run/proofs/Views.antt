@@ -8,7 +8,7 @@ use Rattle.disk_model.specs.Moments.{Moments}
 use Rattle.std.specs.FinMap as map_of
 use Rattle.trie_model.specs.Maps.{Map, limits, root}
 use Rattle.store_model.specs.Journal.{Stands}
-use Rattle.mdb_core.proofs.KeptStores.{kept_stands}
+use Rattle.mdb_core.proofs.StoreFiles.{kept_stands}
 use Rattle.batch_model.specs.Batch.{Change, after_batch}
 use Rattle.text_model.specs.Texts.{Batch, view_text, closed_text, refused_text, value_text}
 use Rattle.text_model.specs.Words.{PlaceWord, Db, View as OfView}
@@ -27,9 +27,9 @@ use Rattle.mdb_core.specs.declared.fault.DbFault.TheVariants.{Disk, NotAStore, B
 use Rattle.script_run.specs.declared.end.SessionEnd.{SessionEnd}
 use Rattle.script_run.specs.Ends.{fault_end, cause_told, IsTextOf}
 use Rattle.store_opening.specs.Opening.{holding_of}
-use Rattle.script_run.specs.Steps.{IsAt, IsQuiet, session_of}
+use Rattle.script_run.specs.ScriptSteps.{IsAt, IsQuiet, session_of}
 use Rattle.script_run.specs.declared.end.SessionEnd.TheVariants.{Disk as failed_disk, NoMemory as no_memory}
-use Rattle.script_run.proofs.MadeLines.{Went}
+use Rattle.script_run.proofs.LinesToPrint.{Went}
 use Rattle.script_run.proofs.Refusals.{words_told, text_quiet, refused_quiet}
 
 -- what the store tells of a fault, in this result

@@ -11,7 +11,7 @@ use Rattle.base_model.specs.Bytes.{bytes_cmp}
 use Rattle.trie_model.proofs.Entries.{tied_equal}
 use Rattle.batch_model.specs.Batch.{Change, set_change}
 use Rattle.mdb_base.specs.Batches.{change_of}
-use Rattle.script_run.specs.Waiting.{waiting}
+use Rattle.script_run.specs.PendingChange.{waiting}
 
 abbrev pub Entry : Type 0
 Entry = SmallVec ℕ × Option (Vec ℕ Global)

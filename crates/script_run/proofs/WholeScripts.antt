@@ -12,16 +12,16 @@ use Rattle.text_model.specs.Texts.{LimitKind}
 use Rattle.session_model.specs.Session.{Session, Step, Stop, start, commit}
 use Rattle.session_model.specs.Script.{Played, and_then, at_end, ended, script}
 use Rattle.session_model.proofs.MapsOfScripts.{play-map}
-use Rattle.session_model.proofs.Playing.{followed}
-use Rattle.run_model.specs.Outside.{DiskSeen, outside}
+use Rattle.session_model.proofs.PlayedLines.{followed}
+use Rattle.run_model.specs.OutsideThings.{DiskSeen, outside}
 use Rattle.run_model.specs.End.{End, Read}
 use Rattle.run_model.specs.Script.{HasSteps, Keeps as KeepsSteps, ScriptRuns}
 use Rattle.mdb_core.specs.Stores.{DbState}
 use Rattle.script_run.specs.declared.end.SessionEnd.{SessionEnd}
 use Rattle.script_run.specs.declared.end.SessionEnd.TheVariants.{Done as done, BadLine as bad_line, Limit as limit, Damaged as damaged_at, Read as failed_read, Write as failed_write, Disk as failed_disk, NoMemory as no_memory}
 use Rattle.script_run.specs.Ends.{end_of, StepCause}
-use Rattle.script_run.specs.Steps.{IsAt, PartRuns, AllDone, all_lines, still}
-use Rattle.script_run.proofs.Parts.{runs_behind, keeps_behind}
+use Rattle.script_run.specs.ScriptSteps.{IsAt, PartRuns, AllDone, all_lines, still}
+use Rattle.script_run.proofs.ScriptParts.{runs_behind, keeps_behind}
 use Rattle.script_run.proofs.ScriptSoFar.{script_runs}
 
 -- ---- what the last batch adds

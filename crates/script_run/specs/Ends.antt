@@ -13,9 +13,9 @@ use Rattle.script_run.specs.declared.end.SessionEnd.TheVariants.{Done as done, B
 use Rattle.text_model.specs.Lines.{input_limit}
 use Rattle.text_model.specs.Texts.{LimitKind, Input, Pairs, Batch, Answers}
 use Rattle.store_model.specs.Refusals.{Damaged}
-use Rattle.session_model.specs.Named.{not_held}
+use Rattle.session_model.specs.MapsByRoot.{not_held}
 use Rattle.session_model.specs.Refusals.{state_word}
-use Rattle.view_stack.specs.Told.{state_meant}
+use Rattle.view_stack.specs.ViewAnswers.{state_meant}
 use Rattle.run_model.specs.End.{End, Done, BadLine, NotOpened, Limit, Read, Write, Disk, NoMemory}
 
 abbrev pub limit_of : LimitOfCode → LimitKind

@@ -1,4 +1,4 @@
 pub mod Ends
-pub mod Naming
-pub mod Steps
-pub mod Waiting
+pub mod NamedSpots
+pub mod ScriptSteps
+pub mod PendingChange

@@ -6,13 +6,13 @@ ghost use Rattle.disk_model.specs.Words.{TellsContents};
 ghost use Rattle.trie_model.specs.Maps.{Map};
 ghost use Rattle.text_model.specs.Texts.{changes_text};
 ghost use Rattle.proof_model.specs.ChangeWire.{changes_form};
-ghost use Rattle.session_model.specs.Named.{between, changes_proved};
+ghost use Rattle.session_model.specs.MapsByRoot.{between, changes_proved};
 ghost use Rattle.session_model.specs.Session.{told_changes};
 ghost use Rattle.batch_text.specs.SeenLine.{seen_root};
 ghost use Rattle.mdb_journal.specs.Opening.{Untouched};
 ghost use Rattle.mdb_core.specs.Stores.{Keeps, held_maps, is_failed};
 ghost use Rattle.script_run.specs.Ends.{IsTextOf};
-ghost use Rattle.script_run.specs.Naming.{IsTakenBetween, IsProofBetween};
+ghost use Rattle.script_run.specs.NamedSpots.{IsTakenBetween, IsProofBetween};
 
 use crate::SessionEnd;
 use crate::end::end_of_fault;

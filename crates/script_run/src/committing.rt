@@ -6,10 +6,10 @@ ghost use Rattle.trie_model.specs.Maps.{Map};
 ghost use Rattle.batch_model.specs.Batch.{Change};
 ghost use Rattle.session_model.specs.Session.{Session, or_limit, commit as commit_of, take as take_of};
 ghost use Rattle.run_model.specs.Script.{Keeps as KeepsSteps};
-ghost use Rattle.mdb_journal.specs.Moves.{AreSynced};
+ghost use Rattle.mdb_journal.specs.DiskMoves.{AreSynced};
 ghost use Rattle.mdb_core.specs.Stores.{Keeps, is_failed};
 ghost use Rattle.script_run.specs.Ends.{end_of, StepCause};
-ghost use Rattle.script_run.specs.Steps.{IsAt, IsDone, IsMade, PartRuns, RunsUnprinted, KeptUnprinted, KeptPrinting, played, session_of};
+ghost use Rattle.script_run.specs.ScriptSteps.{IsAt, IsDone, IsMade, PartRuns, RunsUnprinted, KeptUnprinted, KeptPrinting, played, session_of};
 
 use crate::SessionEnd;
 use crate::end::end_of_fault;

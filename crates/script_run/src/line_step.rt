@@ -8,11 +8,11 @@ ghost use Rattle.text_model.specs.ReadLine.{Script, read_line as line_of};
 ghost use Rattle.session_model.specs.Session.{Session, or_limit, line_step as step_of_line, step as step_of};
 ghost use Rattle.run_model.specs.Script.{Keeps as KeepsSteps};
 ghost use Rattle.mdb_base.specs.Batches.{change_of};
-ghost use Rattle.mdb_journal.specs.Moves.{AreSynced};
+ghost use Rattle.mdb_journal.specs.DiskMoves.{AreSynced};
 ghost use Rattle.mdb_core.specs.Stores.{Keeps, is_failed};
 ghost use Rattle.batch_text.specs.SeenLine.{seen_line};
 ghost use Rattle.script_run.specs.Ends.{end_of, IsTextOf, StepCause};
-ghost use Rattle.script_run.specs.Steps.{IsAt, IsDone, IsMade, PartRuns, RunsUnprinted, KeptUnprinted, KeptPrinting, IsUnread, played, session_of};
+ghost use Rattle.script_run.specs.ScriptSteps.{IsAt, IsDone, IsMade, PartRuns, RunsUnprinted, KeptUnprinted, KeptPrinting, IsUnread, played, session_of};
 
 use crate::SessionEnd;
 use crate::changing::changes;

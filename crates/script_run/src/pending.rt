@@ -20,7 +20,7 @@ pub(crate) struct Pending {
 impl Model for Pending {
     ghost use Rattle.std.specs.Prelude.{List, map};
     ghost use Rattle.batch_model.specs.Batch.{Change};
-    ghost use Rattle.script_run.specs.Waiting.{waiting};
+    ghost use Rattle.script_run.specs.PendingChange.{waiting};
 
     ghost Value = { List Change };
 

@@ -10,14 +10,14 @@ ghost use Rattle.proof_model.specs.Proofs.{point_proof};
 ghost use Rattle.proof_model.specs.RangeProofs.{range_proof};
 ghost use Rattle.proof_model.specs.Wire.{point_form};
 ghost use Rattle.proof_model.specs.RangeWire.{range_form};
-ghost use Rattle.session_model.specs.Named.{root_meant, named, proved, range_proved};
+ghost use Rattle.session_model.specs.MapsByRoot.{root_meant, named, proved, range_proved};
 ghost use Rattle.session_model.specs.Session.{told_proof, told_range};
 ghost use Rattle.batch_text.specs.SeenLine.{seen_root};
 ghost use Rattle.mdb_journal.specs.Opening.{Untouched};
 ghost use Rattle.mdb_core.specs.Stores.{Keeps, held_maps, is_failed};
 ghost use Rattle.mdb_core.specs.Spots.{IsSpotOf};
 ghost use Rattle.script_run.specs.Ends.{IsTextOf};
-ghost use Rattle.script_run.specs.Naming.{IsSpotNamed};
+ghost use Rattle.script_run.specs.NamedSpots.{IsSpotNamed};
 
 use crate::SessionEnd;
 use crate::end::end_of_fault;

@@ -8,14 +8,14 @@ ghost use Rattle.trie_model.specs.Maps.{Map};
 ghost use Rattle.text_model.specs.Lines.{input_limit};
 ghost use Rattle.session_model.specs.Session.{Session};
 ghost use Rattle.session_model.specs.Script.{script, at_end};
-ghost use Rattle.run_model.specs.Outside.{outside, disk_seen};
+ghost use Rattle.run_model.specs.OutsideThings.{outside, disk_seen};
 ghost use Rattle.run_model.specs.Script.{ScriptRuns, HasSteps, Keeps as KeepsSteps};
 ghost use Rattle.mdb_base.specs.declared.faults.LimitKind.TheVariants.{Input};
-ghost use Rattle.mdb_journal.specs.Moves.{AreSynced};
+ghost use Rattle.mdb_journal.specs.DiskMoves.{AreSynced};
 ghost use Rattle.mdb_core.specs.Stores.{Keeps, is_failed};
 ghost use Rattle.script_run.specs.Ends.{end_of, reader_end, StepCause, LinesCause};
 ghost use Rattle.store_opening.specs.Opening.{IsJustOpened};
-ghost use Rattle.script_run.specs.Steps.{IsAt, PartRuns, AllDone, all_lines, still};
+ghost use Rattle.script_run.specs.ScriptSteps.{IsAt, PartRuns, AllDone, all_lines, still};
 
 use crate::SessionEnd;
 use crate::committing::commit_and_print;

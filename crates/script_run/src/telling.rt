@@ -16,7 +16,7 @@ ghost use Rattle.mdb_core.specs.Stores.{DbState, Keeps, is_failed};
 ghost use Rattle.mdb_core.specs.Places.{number_at, is_named, map_at};
 ghost use Rattle.session_model.specs.Session.{view_at};
 ghost use Rattle.script_run.specs.Ends.{cause_told, fault_end, IsTextOf};
-ghost use Rattle.script_run.specs.Steps.{session_of};
+ghost use Rattle.script_run.specs.ScriptSteps.{session_of};
 
 use crate::SessionEnd;
 use crate::end::end_of_fault;

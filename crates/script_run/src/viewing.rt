@@ -7,11 +7,11 @@ ghost use Rattle.text_model.specs.Texts.{view_text, closed_text, state_text};
 ghost use Rattle.view_model.specs.Forest.{state as state_of};
 ghost use Rattle.session_model.specs.Session.{view as view_of, view_at, close as close_of, told_state, or_limit};
 ghost use Rattle.session_model.specs.Refusals.{state_word};
-ghost use Rattle.view_stack.specs.Told.{number_in, state_meant};
+ghost use Rattle.view_stack.specs.ViewAnswers.{number_in, state_meant};
 ghost use Rattle.batch_text.specs.SeenLine.{seen_place};
 ghost use Rattle.mdb_core.specs.Stores.{Keeps, is_failed, root_at};
 ghost use Rattle.script_run.specs.Ends.{IsTextOf, StepCause};
-ghost use Rattle.script_run.specs.Steps.{IsQuiet, session_of};
+ghost use Rattle.script_run.specs.ScriptSteps.{IsQuiet, session_of};
 
 use crate::SessionEnd;
 use crate::telling::{numbered_line, refuse, refused_line};

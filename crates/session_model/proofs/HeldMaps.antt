@@ -10,7 +10,7 @@ use Rattle.text_model.specs.Texts.{LimitKind}
 use Rattle.text_model.specs.Lines.{input_limit, lines_within}
 use Rattle.history_model.specs.Held.{commit_limit, weight_limit, held}
 use Rattle.history_model.proofs.Cuts.{cuts_are_one}
-use Rattle.session_model.specs.Named.{Holding, holds_first, holds_next}
+use Rattle.session_model.specs.MapsByRoot.{Holding, holds_first, holds_next}
 use Rattle.session_model.specs.Session.{Session, Step, Stop, start, commit, step}
 use Rattle.session_model.specs.Script.{Played, then_play, play, and_then, at_end, ended, script, batches_of, after_step, after_steps, maps_from}
 use Rattle.session_model.specs.Laws.{HeldOfAllMaps}

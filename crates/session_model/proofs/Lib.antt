@@ -1,10 +1,10 @@
-pub mod Playing
+pub mod PlayedLines
 pub mod Outcomes
 pub mod MapsOfScripts
 pub mod HeldMaps
-pub mod Pending
-pub mod Acknowledged
-pub mod Deciding
+pub mod PendingChanges
+pub mod AcknowledgedCommits
+pub mod DecidedScripts
 pub mod WorkedScripts
 pub mod ViewRoots
 pub mod NamedMaps

@@ -9,7 +9,7 @@ use Rattle.text_model.specs.Lines.{input_limit, lines_within}
 use Rattle.session_model.specs.Session.{Session, Step, Stop, start, commit, step}
 use Rattle.session_model.specs.Script.{Played, then_play, play, and_then, at_end, ended, script, batches_of, after_step, after_steps, maps_from}
 use Rattle.session_model.specs.Laws.{StepsMakeTheMap, MapsEndThere}
-use Rattle.session_model.proofs.Playing.{after_steps-append}
+use Rattle.session_model.proofs.PlayedLines.{after_steps-append}
 use Rattle.session_model.proofs.Outcomes.{Holds, of_commit, of_step}
 
 -- the map after a line is that after its step

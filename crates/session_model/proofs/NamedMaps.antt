@@ -11,7 +11,7 @@ use Rattle.range_model.specs.Ranges.{Range}
 use Rattle.history_model.specs.Between.{NoEnd, NoStart, changes_since, changes_from}
 use Rattle.history_model.specs.Held.{no_map, until_root, with_root}
 use Rattle.history_model.proofs.Values.{same_key}
-use Rattle.session_model.specs.Named.{and_later, leading_to}
+use Rattle.session_model.specs.MapsByRoot.{and_later, leading_to}
 use Rattle.session_model.specs.Laws.{AreTold, ChangesAreNamed}
 use Rattle.session_model.specs.Worked.{NamedMaps}
 

@@ -14,7 +14,7 @@ use Rattle.view_model.specs.Calls.{Refusal, number_limit, view_refused, parent_r
 use Rattle.view_model.specs.Forest.{ViewState, state, payload}
 use Rattle.session_model.specs.Limits.{pairs_limit, payload_limit}
 use Rattle.session_model.specs.Refusals.{cause_words, take_refused}
-use Rattle.session_model.specs.Named.{proved, range_proved, changes_proved, not_held}
+use Rattle.session_model.specs.MapsByRoot.{proved, range_proved, changes_proved, not_held}
 use Rattle.session_model.specs.Session.{Session, Step, quiet, prints, refuses, pend, committed, commit_step, commit, view_at, map_at, viewed, view_step, view_unless, view, taken, taken_map, take_step, take_unless, take as take_view, close_unless, close, told_state, told_unless, told, told_proof, told_range, told_changes, line_step, or_limit, read_step, step}
 
 -- ---- what lines ask for

@@ -16,7 +16,7 @@ use Rattle.proof_model.specs.Wire.{point_form}
 use Rattle.proof_model.specs.Proofs.{Pair, pair_size}
 use Rattle.proof_model.specs.RangeProofs.{proof_of_pairs}
 use Rattle.proof_model.specs.RangeWire.{range_form}
-use Rattle.proof_model.specs.Takings.{taken as taken_of, is_cut}
+use Rattle.proof_model.specs.TakenEntries.{taken as taken_of, is_cut}
 use Rattle.range_model.specs.Ranges.{everything, holds}
 use Rattle.batch_model.specs.Batch.{after_batch}
 use Rattle.view_model.specs.Calls.{number_limit}
@@ -27,12 +27,12 @@ use Rattle.text_model.specs.ReadLine.{Line, Commit, Take, Script, read_line}
 use Rattle.session_model.specs.Limits.{pairs_limit, payload_limit}
 use Rattle.session_model.specs.Refusals.{take_refused}
 use Rattle.history_model.specs.Held.{no_map}
-use Rattle.session_model.specs.Named.{proof_of, range_proof_of, not_held}
+use Rattle.session_model.specs.MapsByRoot.{proof_of, range_proof_of, not_held}
 use Rattle.session_model.specs.Session.{Session, Step, prints, refuses, told_range, start, committed, commit_step, commit, or_limit, taken, taken_map, take_step, read_step, step}
 use Rattle.session_model.specs.Script.{Played, play, and_then, ended}
 use Rattle.session_model.specs.Worked.{WorkedScripts, ViewScripts, ClosedLines, RefusedLines, ProvedLines, RangedLines, no_proof, no_range, maybe_text, with, one_pair, a, root_of}
 use Rattle.session_model.proofs.NamedMaps.{itself, by_zeros}
-use Rattle.session_model.proofs.Playing.{put_first, followed, play-done, play-on}
+use Rattle.session_model.proofs.PlayedLines.{put_first, followed, play-done, play-on}
 
 -- ---- maps of so few pairs are within the limit
 

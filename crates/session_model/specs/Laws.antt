@@ -10,7 +10,7 @@ use Rattle.history_model.specs.Between.{ChangesRefusal, changes_between}
 use Rattle.history_model.specs.Held.{commit_limit, weight_limit, held}
 use Rattle.view_model.specs.Forest.{Live, state, next_number}
 use Rattle.view_model.specs.Calls.{make_refused, is_next}
-use Rattle.session_model.specs.Named.{between}
+use Rattle.session_model.specs.MapsByRoot.{between}
 use Rattle.session_model.specs.Session.{Stop, start, prints, view_at, map_at, viewed, view_step, take_step, told}
 use Rattle.session_model.specs.Script.{play, script, decided, text_of, batches_of, after_steps, acknowledged, session}
 

@@ -1,6 +1,6 @@
 pub mod Limits
 pub mod Refusals
-pub mod Named
+pub mod MapsByRoot
 pub mod Session
 pub mod Script
 pub mod Laws

@@ -12,7 +12,7 @@ use Rattle.view_model.specs.Forest.{Forest, ViewState, no_views, state, next_num
 use Rattle.view_model.specs.Maps.{changes_of, view_map}
 use Rattle.session_model.specs.Limits.{pairs_limit, payload_limit}
 use Rattle.session_model.specs.Refusals.{state_word, cause_words, take_refused}
-use Rattle.session_model.specs.Named.{Holding, holds_first, holds_next, proved, range_proved, changes_proved, not_held}
+use Rattle.session_model.specs.MapsByRoot.{Holding, holds_first, holds_next, proved, range_proved, changes_proved, not_held}
 
 -- a script at work: the map of the store, the maps that it holds, the views, and the changes that no commit and no view has
 -- taken so far

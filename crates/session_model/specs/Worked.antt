@@ -6,7 +6,7 @@ use Rattle.trie_model.specs.Maps.{Map, root}
 use Rattle.text_model.specs.Texts.{commit_text, view_text, taken_text, state_text, root_text, proof_text, range_text}
 use Rattle.text_model.specs.Words.{Id, Now, Empty, Back}
 use Rattle.history_model.specs.Held.{no_map}
-use Rattle.session_model.specs.Named.{named}
+use Rattle.session_model.specs.MapsByRoot.{named}
 use Rattle.session_model.specs.Session.{Step, Stop, BadLine, quiet}
 use Rattle.session_model.specs.Script.{script}
 

@@ -14,12 +14,12 @@ use Rattle.mdb_core.specs.Places.{GetFails}
 use Rattle.mdb_core.specs.declared.store.At.TheVariants.{Store}
 use Rattle.mdb_core.specs.declared.fault.DbFault.{DbFault}
 use Rattle.mdb_core.specs.declared.fault.DbFault.TheVariants.{Disk, NotAStore, BranchDiffers, Damaged, Failed, Unknown, NotLive, NotHeld, TooMany, TooDeep, TooHeavy, TooLarge, NotParent, Full, NoMemory}
-use Rattle.mdb_core.proofs.KeptStores.{kept_stands}
-use Rattle.run_model.specs.Outside.{DiskSeen}
+use Rattle.mdb_core.proofs.StoreFiles.{kept_stands}
+use Rattle.run_model.specs.OutsideThings.{DiskSeen}
 use Rattle.run_model.specs.End.{NoMemory as NoMemoryEnd}
 use Rattle.store_opening.specs.Opening.{IsJustOpened, KeepsMaps, IsOpen, FailsBy, end_of_fault}
-use Rattle.run_model.proofs.Telling.{rose_at_last}
-use Rattle.session_model.specs.Named.{Holding}
+use Rattle.run_model.proofs.ToldThings.{rose_at_last}
+use Rattle.session_model.specs.MapsByRoot.{Holding}
 use Rattle.mdb_core.specs.Stores.{held_maps}
 
 -- a store that was just opened holds its map alone

@@ -7,12 +7,12 @@ use Rattle.trie_model.specs.Maps.{Map, limits}
 use Rattle.store_model.specs.Journal.{Stands}
 use Rattle.store_model.specs.Openings.{Opens}
 use Rattle.store_model.specs.Refusals.{Refused, NotAStore, BranchDiffers, Damaged}
-use Rattle.mdb_journal.specs.Moves.{AreSynced}
+use Rattle.mdb_journal.specs.DiskMoves.{AreSynced}
 use Rattle.mdb_core.specs.Stores.{DbState, held_maps, is_failed}
-use Rattle.mdb_core.specs.Opens.{Opened}
-use Rattle.run_model.specs.Outside.{DiskSeen}
+use Rattle.mdb_core.specs.StoreOpenings.{Opened}
+use Rattle.run_model.specs.OutsideThings.{DiskSeen}
 use Rattle.view_model.specs.Forest.{no_views}
-use Rattle.session_model.specs.Named.{Holding, holds_first}
+use Rattle.session_model.specs.MapsByRoot.{Holding, holds_first}
 use Rattle.mdb_core.specs.declared.fault.DbFault.{DbFault}
 use Rattle.mdb_core.specs.declared.fault.DbFault.TheVariants.{Disk as DiskFault, NotAStore as NotAStoreFault, BranchDiffers as BranchDiffersFault, Damaged as DamagedFault, Failed as FailedFault, Unknown as UnknownFault, NotLive as NotLiveFault, NotHeld as NotHeldFault, TooMany as TooManyFault, TooDeep as TooDeepFault, TooHeavy as TooHeavyFault, TooLarge as TooLargeFault, NotParent as NotParentFault, Full as FullFault, NoMemory as NoMemoryFault}
 use Rattle.run_model.specs.End.{End, Done, BadWords, BadLine, NotOpened, VerifyRefused, NotHeld, Limit, Read, Write, Disk, NoMemory}

@@ -1,7 +1,7 @@
 // Opening the store of a disk.
 ghost use Rattle.std.specs.Prelude.{◌≤◌, IfOk, IfErr};
 ghost use Rattle.bit_keys.specs.Branch.{width_of};
-ghost use Rattle.run_model.specs.Outside.{disk_seen};
+ghost use Rattle.run_model.specs.OutsideThings.{disk_seen};
 ghost use Rattle.store_opening.specs.Opening.{KeepsMaps, IsOpen, FailsBy, end_of_fault};
 
 use bit_keys::Branch;

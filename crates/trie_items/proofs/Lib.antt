@@ -1,6 +1,6 @@
-mod Pieces
-mod Ordered
+mod NodePieces
+mod OrderedItems
 mod NodeKeys
 mod SlotGroups
-mod Turns
+mod ItemRuns
 mod RootRuns

@@ -16,10 +16,10 @@ use Rattle.trie_model.proofs.Lists.{All-weaker}
 use Rattle.trie_model.proofs.Prefixes.{length_whole}
 use Rattle.trie_model.proofs.Strings.{strings_unfold, strings_none, strings_below_none}
 use Rattle.trie_model.proofs.Unfold.{id_unfolds, below_shrinks}
-use Rattle.trie_items.specs.Roots.{lone, or_id, slot_id, slot_strings, has_token, own_count, own_digest, one_unless, depth}
+use Rattle.trie_items.specs.SlotIds.{lone, or_id, slot_id, slot_strings, has_token, own_count, own_digest, one_unless, depth}
 use Rattle.trie_items.proofs.NodeKeys.{Hanging}
 use Rattle.trie_items.proofs.SlotGroups.{InSlot, stub, items, in_slot, of_none}
-use Rattle.trie_items.proofs.Turns.{turn, Turn, valid-take, valid-drop, hangs-drop, others_hang, others_children, others_hashed, first_digest}
+use Rattle.trie_items.proofs.ItemRuns.{turn, Turn, valid-take, valid-drop, hangs-drop, others_hang, others_children, others_hashed, first_digest}
 
 -- the key of the root node has so many tokens
 pub tokens_are : (w b v : ℕ) (is : List Item) (k : List Bool) → 0 < w → k ≡ node_key w is → b ≡ length k → v ≡ w → length (node_key w is) ≡ w * (b / v)

@@ -15,7 +15,7 @@ use Rattle.trie_model.proofs.Lists.{filter-all, filter-filter, flat_map-same}
 use Rattle.trie_model.proofs.Lookups.{stub_at-of}
 use Rattle.trie_model.proofs.Prefixes.{same_key-is, same_key-itself, is_prefix-itself, is_prefix-through, is_prefix-append, is_prefix-all, length-is_prefix, prefix_of_take, whole_step}
 use Rattle.trie_model.proofs.Valid.{valid_by_members}
-use Rattle.trie_items.specs.Roots.{lone, or_id, slot_id, slot_strings}
+use Rattle.trie_items.specs.SlotIds.{lone, or_id, slot_id, slot_strings}
 use Rattle.trie_items.proofs.NodeKeys.{position-place, place-whole}
 
 -- what begins with a slot has the slot's token

@@ -1,4 +1,4 @@
 pub mod Children
 pub mod Items
 pub mod Sources
-pub mod Roots
+pub mod SlotIds

@@ -5,7 +5,7 @@ ghost use Rattle.trie_model.specs.Ids.{node_key};
 ghost use Rattle.trie_model.specs.Items.{Item as KnownItem, IsValid, place_of};
 ghost use Rattle.bit_keys.specs.Branch.{width_of};
 ghost use Rattle.trie_items.specs.Items.{item_of};
-ghost use Rattle.trie_items.specs.Roots.{lone, slot_id, slot_strings, has_token, own_count, own_digest as digest_in_front};
+ghost use Rattle.trie_items.specs.SlotIds.{lone, slot_id, slot_strings, has_token, own_count, own_digest as digest_in_front};
 
 use crate::child::ChildId;
 use crate::ids::id_of;

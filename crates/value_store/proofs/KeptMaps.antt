@@ -10,10 +10,10 @@ use Rattle.trie_model.specs.Maps.{Map, limits}
 use Rattle.store_model.specs.Header.{header_of}
 use Rattle.store_model.specs.Journal.{IsJournal, Stands, active, later}
 use Rattle.store_model.proofs.Journals.{active_header, files_stand_for_one_map}
-use Rattle.mdb_journal.proofs.Opened.{known_hold}
+use Rattle.mdb_journal.proofs.OpenedFiles.{known_hold}
 use Rattle.value_store.specs.Values.{Place, ValueState, Keeps, HasKeys, pair_in, value_in}
 use Rattle.value_store.specs.Index.{Places}
-use Rattle.value_store.specs.Opens.{Opened}
+use Rattle.value_store.specs.StoreOpenings.{Opened}
 
 pub find-pairs : (bytes : List ℕ) (es : List (List ℕ × Place)) (q : List ℕ) → find bytes_cmp q (map (pair_in bytes) es) ≡ option_map (value_in bytes) (find bytes_cmp q es)
 find-pairs bytes [] q = refl

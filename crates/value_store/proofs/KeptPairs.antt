@@ -12,7 +12,7 @@ use Rattle.trie_model.proofs.Entries.{tied_equal}
 use Rattle.trie_model.specs.Maps.{Map}
 use Rattle.value_store.specs.Values.{Place, StandsBefore, pair_in, value_in}
 use Rattle.value_store.specs.Index.{Places, AreInFile, IsInFile}
-use Rattle.value_store.specs.Reading.{Shows}
+use Rattle.value_store.specs.BatchReading.{Shows}
 use Rattle.value_store.proofs.KeptMaps.{find-pairs}
 
 -- ---- lists of entries with other values

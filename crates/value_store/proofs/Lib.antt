@@ -4,7 +4,7 @@ pub mod KeptMaps
 pub mod LocalNumbers
 pub mod LocalFields
 pub mod PieceRanges
-pub mod AtOk
+pub mod FactsAtOk
 pub mod ReadBatches
 pub mod RecordGates
 pub mod KeptPairs

@@ -11,7 +11,7 @@ use Rattle.base_model.proofs.Results.{ok_is, passed}
 use Rattle.trie_model.specs.Maps.{Limits}
 use Rattle.batch_model.specs.Sized.{sized_at}
 use Rattle.batch_model.specs.Batch.{BatchFault, Outside, comes_after, key_at}
-use Rattle.value_store.specs.Heads.{limited_at, count_at, head_at}
+use Rattle.value_store.specs.ChangeHeads.{limited_at, count_at, head_at}
 use Rattle.value_store.proofs.LocalNumbers.{first_ten, read_length}
 
 -- a piece of the bytes from a place on: at least so many of them, or all

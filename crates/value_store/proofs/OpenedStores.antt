@@ -12,11 +12,11 @@ use Rattle.mdb_journal.specs.Journal.{JournalState, Knows}
 use Rattle.mdb_journal.specs.Opening.{IsOpened, Refuses, Opens as journal_opens}
 use Rattle.mdb_journal.specs.declared.fault.JournalFault.{JournalFault}
 use Rattle.mdb_journal.specs.declared.fault.JournalFault.TheVariants.{Disk as journal_disk, NotAStore as journal_not, BranchDiffers as journal_differs, Damaged as journal_damaged, TooLarge as journal_too_large, Failed as journal_failed, NoMemory as journal_no_memory}
-use Rattle.mdb_journal.proofs.Opened.{known_hold}
+use Rattle.mdb_journal.proofs.OpenedFiles.{known_hold}
 use Rattle.value_store.specs.Index.{Places, AreInFile}
-use Rattle.value_store.specs.Reading.{store_fault, Found, WrongBatch, RecordsFail}
+use Rattle.value_store.specs.BatchReading.{store_fault, Found, WrongBatch, RecordsFail}
 use Rattle.store_model.specs.Openings.{Opens}
-use Rattle.value_store.specs.Opens.{Opened, OpenFails}
+use Rattle.value_store.specs.StoreOpenings.{Opened, OpenFails}
 use Rattle.value_store.specs.declared.fault.ValueFault.{ValueFault}
 use Rattle.value_store.specs.declared.fault.ValueFault.TheVariants.{Disk, NotAStore, BranchDiffers, Damaged, TooLarge, Full, Failed, NoMemory}
 use Rattle.value_store.proofs.KeptPairs.{pairs_shown, all_before}

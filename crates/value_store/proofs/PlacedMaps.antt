@@ -17,8 +17,8 @@ use Rattle.batch_model.specs.Batch.{Change, put_or_removed, after_batch, value_f
 use Rattle.store_model.specs.Header.{first_gate}
 use Rattle.value_store.specs.Values.{Place, value_in}
 use Rattle.value_store.specs.Index.{Places, AreInFile, IsInFile}
-use Rattle.value_store.specs.Reading.{laid, Shows}
-use Rattle.value_store.specs.Placing.{value_place, laid_all}
+use Rattle.value_store.specs.BatchReading.{laid, Shows}
+use Rattle.value_store.specs.ValuePlaces.{value_place, laid_all}
 use Rattle.value_store.proofs.KeptPairs.{sorted-with_value}
 use Rattle.value_store.proofs.ReadBatches.{shows-laid, in_file-laid}
 use Rattle.value_store.proofs.PlacesAfter.{get-laid}

@@ -18,8 +18,8 @@ use Rattle.trie_model.proofs.Entries.{tied_equal}
 use Rattle.batch_model.specs.Batch.{Change, AreRising, change_form}
 use Rattle.value_store.specs.Values.{Place}
 use Rattle.value_store.specs.Index.{Places, up_to}
-use Rattle.value_store.specs.Reading.{laid}
-use Rattle.value_store.specs.Placing.{value_place, laid_all, room_for, with_room, adds, takes, or_else, pending, new_place, HasRoom}
+use Rattle.value_store.specs.BatchReading.{laid}
+use Rattle.value_store.specs.ValuePlaces.{value_place, laid_all, room_for, with_room, adds, takes, or_else, pending, new_place, HasRoom}
 use Rattle.value_store.proofs.IndexEntries.{same_places}
 
 -- ---- keys that rise are distinct

@@ -18,9 +18,9 @@ use Rattle.batch_model.specs.Batch.{Change, BatchFault, Outside, put_or_removed,
 use Rattle.store_model.specs.Header.{first_gate}
 use Rattle.value_store.specs.Values.{Place, value_in}
 use Rattle.value_store.specs.Index.{Places, AreInFile, IsInFile}
-use Rattle.value_store.specs.Heads.{Head, limited_at, count_at, head_at, value_behind}
-use Rattle.value_store.specs.Pieces.{PieceState, IsPieceOf, AreAt}
-use Rattle.value_store.specs.Reading.{laid, Shows, Midway, Counted, BatchRead, changes_into, batch_into, payload_at, place_behind}
+use Rattle.value_store.specs.ChangeHeads.{Head, limited_at, count_at, head_at, value_behind}
+use Rattle.value_store.specs.PayloadPieces.{PieceState, IsPieceOf, AreAt}
+use Rattle.value_store.specs.BatchReading.{laid, Shows, Midway, Counted, BatchRead, changes_into, batch_into, payload_at, place_behind}
 use Rattle.value_store.proofs.LocalFields.{IsWindow, shifted, local-number, local-head}
 
 start : (x : List ℕ) → drop 0 x ≡ x

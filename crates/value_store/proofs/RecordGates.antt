@@ -19,14 +19,14 @@ use Rattle.store_model.proofs.Records.{spelled_records_are_read, records_form-pu
 use Rattle.store_model.proofs.Journals.{maps_follow_records}
 use Rattle.store_model.proofs.Appends.{whole}
 use Rattle.mdb_journal.specs.Journal.{JournalState, Knows}
-use Rattle.mdb_journal.specs.Walk.{IsFound, AtGate}
+use Rattle.mdb_journal.specs.GateWalk.{IsFound, AtGate}
 use Rattle.mdb_journal.specs.declared.fault.JournalFault.{JournalFault}
 use Rattle.mdb_journal.specs.declared.fault.JournalFault.TheVariants.{Disk, NotAStore, BranchDiffers, Damaged, TooLarge, Failed, NoMemory}
 use Rattle.mdb_journal.specs.declared.record.Record.{Record as found_record}
 use Rattle.value_store.specs.Values.{value_in}
 use Rattle.std.specs.Prelude.{IfSome}
 use Rattle.value_store.specs.Index.{Places, AreInFile, IsInFile}
-use Rattle.value_store.specs.Reading.{Shows, BatchRead, Standing, Found, WrongBatch, RecordsFail, store_fault, payload_at, batch_into}
+use Rattle.value_store.specs.BatchReading.{Shows, BatchRead, Standing, Found, WrongBatch, RecordsFail, store_fault, payload_at, batch_into}
 
 -- ---- a file whose records are known
 

@@ -19,11 +19,11 @@ use Rattle.store_model.specs.Journal.{IsJournal, Hold, Stands, end_of, after_rec
 use Rattle.store_model.proofs.Records.{records_form-push}
 use Rattle.store_model.proofs.Journals.{maps_follow_records}
 use Rattle.mdb_journal.specs.Journal.{JournalState, Knows, payload_in, payload_limit, record_in}
-use Rattle.mdb_journal.specs.Moves.{HoldEither}
+use Rattle.mdb_journal.specs.DiskMoves.{HoldEither}
 use Rattle.value_store.specs.Values.{Place, ValueState, Keeps, HasKeys, value_in}
 use Rattle.value_store.specs.Index.{Places, AreInFile, IsInFile}
-use Rattle.value_store.specs.Reading.{Shows}
-use Rattle.value_store.specs.Placing.{laid_all}
+use Rattle.value_store.specs.BatchReading.{Shows}
+use Rattle.value_store.specs.ValuePlaces.{laid_all}
 use Rattle.value_store.specs.Writes.{StandEither}
 use Rattle.value_store.proofs.KeptMaps.{kept_value, kept_key}
 use Rattle.value_store.proofs.KeptPairs.{pairs_shown, all_before}

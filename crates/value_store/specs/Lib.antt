@@ -1,10 +1,10 @@
 pub mod Values
 pub mod Index
-pub mod Heads
+pub mod ChangeHeads
 pub mod SeenHeads
-pub mod Pieces
-pub mod Reading
-pub mod Placing
+pub mod PayloadPieces
+pub mod BatchReading
+pub mod ValuePlaces
 pub mod Writes
-pub mod Opens
+pub mod StoreOpenings
 pub mod PairSinks

@@ -1,6 +1,6 @@
 -- A head as the code has it.
 use Rattle.std.specs.Prelude.{ℕ}
-use Rattle.value_store.specs.Heads.{Head as head_of}
+use Rattle.value_store.specs.ChangeHeads.{Head as head_of}
 use Rattle.value_store.specs.declared.heads.Head.{Head}
 
 -- the head, and how many bytes it has

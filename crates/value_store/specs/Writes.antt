@@ -7,7 +7,7 @@ use Rattle.trie_model.specs.Maps.{Map, limits}
 use Rattle.batch_model.specs.Batch.{Change, batch_form, after_batch}
 use Rattle.store_model.specs.Journal.{Stands}
 use Rattle.mdb_journal.specs.Journal.{payload_limit}
-use Rattle.mdb_journal.specs.Moves.{OthersAsBefore}
+use Rattle.mdb_journal.specs.DiskMoves.{OthersAsBefore}
 use Rattle.value_store.specs.Values.{ValueState, HasKeys, pairs_limit}
 use Rattle.value_store.specs.declared.fault.ValueFault.{ValueFault}
 use Rattle.value_store.specs.declared.fault.ValueFault.TheVariants.{Disk, NotAStore, BranchDiffers, Damaged, TooLarge, Full, Failed, NoMemory}

@@ -4,7 +4,7 @@ ghost use Rattle.base_model.specs.Fields.{Field};
 ghost use Rattle.trie_model.specs.Maps.{limits};
 ghost use Rattle.batch_model.specs.Batch.{key_at};
 ghost use Rattle.value_store.specs.Index.{IsShort};
-ghost use Rattle.value_store.specs.Heads.{or_outside, limited_at, count_at, head_at};
+ghost use Rattle.value_store.specs.ChangeHeads.{or_outside, limited_at, count_at, head_at};
 ghost use Rattle.value_store.specs.SeenHeads.{seen_head};
 
 use crate::last_key::LastKey;
@@ -19,7 +19,7 @@ pub(crate) struct Head<'a> {
     pub(crate) length: usize,
 }
 
-#[tactic(auto, unfolding(crate::specs::Heads::limited_at, base_model::specs::Fields::number_at))]
+#[tactic(auto, unfolding(crate::specs::ChangeHeads::limited_at, base_model::specs::Fields::number_at))]
 // A length that is no greater than the limit, and the place after it.
 fn read_limited(bytes: &[u8], at: usize, limit: usize) -> Option<(usize, usize)>
     requires { at ≤ length bytes.now }
@@ -35,7 +35,7 @@ fn read_limited(bytes: &[u8], at: usize, limit: usize) -> Option<(usize, usize)>
     Some((count as usize, next))
 }
 
-#[tactic(auto, unfolding(crate::specs::Heads::limited_at, batch_model::specs::Batch::key_at, batch_model::specs::Sized::sized_at, base_model::specs::Fields::bytes_at))]
+#[tactic(auto, unfolding(crate::specs::ChangeHeads::limited_at, batch_model::specs::Batch::key_at, batch_model::specs::Sized::sized_at, base_model::specs::Fields::bytes_at))]
 // A key that comes after the last one, and the place after it.
 fn read_key<'a>(bytes: &'a [u8], last: &LastKey) -> Option<(&'a [u8], usize)>
     ensures exact { or_outside (option_map (λ x. (x.0.now, x.1)) result) ≡ key_at limits last.now bytes.now 0 }
@@ -56,7 +56,7 @@ fn read_key<'a>(bytes: &'a [u8], last: &LastKey) -> Option<(&'a [u8], usize)>
     Some((key, end))
 }
 
-#[tactic(auto, unfolding(crate::specs::Heads::count_at, base_model::specs::Fields::flag_at))]
+#[tactic(auto, unfolding(crate::specs::ChangeHeads::count_at, base_model::specs::Fields::flag_at))]
 // The flag, and where it is 1 the length of the value; and the place after them.
 fn read_count(bytes: &[u8], at: usize) -> Option<(Option<u32>, usize)>
     requires { at ≤ length bytes.now }
@@ -76,7 +76,7 @@ fn read_count(bytes: &[u8], at: usize) -> Option<(Option<u32>, usize)>
     }
 }
 
-#[tactic(auto, unfolding(crate::specs::Heads::head_at))]
+#[tactic(auto, unfolding(crate::specs::ChangeHeads::head_at))]
 /// Reads the head of the change that stands in front; None where it is outside the grammar.
 pub(crate) fn read_head<'a>(bytes: &'a [u8], last: &LastKey) -> Option<Head<'a>>
     ensures exact { or_outside (option_map seen_head result) ≡ head_at limits last.now bytes.now 0 }

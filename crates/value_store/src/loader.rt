@@ -11,7 +11,7 @@ ghost use Rattle.store_model.specs.Record.{Record};
 ghost use Rattle.mdb_journal.specs.Journal.{Knows};
 ghost use Rattle.mdb_journal.specs.Opening.{Untouched};
 ghost use Rattle.value_store.specs.Index.{AreInFile, IsInFile, IsShort};
-ghost use Rattle.value_store.specs.Reading.{laid, Shows, Midway, Counted, BatchRead, payload_at, place_behind};
+ghost use Rattle.value_store.specs.BatchReading.{laid, Shows, Midway, Counted, BatchRead, payload_at, place_behind};
 
 use crate::Place;
 use crate::heads::read_head;

@@ -6,9 +6,9 @@ ghost use Rattle.disk_model.specs.Words.{TellsContents, TellsImages};
 ghost use Rattle.trie_model.specs.Maps.{Map, limits};
 ghost use Rattle.bit_keys.specs.Branch.{width_of};
 ghost use Rattle.store_model.specs.Journal.{Stands};
-ghost use Rattle.mdb_journal.specs.Moves.{AreSynced};
+ghost use Rattle.mdb_journal.specs.DiskMoves.{AreSynced};
 ghost use Rattle.store_model.specs.Openings.{Opens};
-ghost use Rattle.value_store.specs.Opens.{Opened, OpenFails};
+ghost use Rattle.value_store.specs.StoreOpenings.{Opened, OpenFails};
 
 use crate::records::{read_records, store_fault};
 use crate::{ValueFault, ValueStore};

@@ -3,8 +3,8 @@ ghost use Rattle.std.specs.Prelude.{◌≡◌, ◌+◌, ◌-◌, ◌≤◌, ◌^
 ghost use Rattle.base_model.specs.Faults.{Rose};
 ghost use Rattle.disk_model.specs.Words.{TellsContents};
 ghost use Rattle.mdb_journal.specs.Opening.{Untouched};
-ghost use Rattle.value_store.specs.Heads.{head_limit};
-ghost use Rattle.value_store.specs.Pieces.{IsPieceOf};
+ghost use Rattle.value_store.specs.ChangeHeads.{head_limit};
+ghost use Rattle.value_store.specs.PayloadPieces.{IsPieceOf};
 
 use disk_world::{Disk, Failed};
 use mdb_base::NoMemory;
@@ -30,7 +30,7 @@ pub(crate) struct Pieces {
 
 impl Model for Pieces {
     ghost use Rattle.std.specs.Prelude.{◌≡◌, ◌+◌, ◌-◌, ◌^◌, ◌<◌, ◌≤◌, vec_len, slice_range};
-    ghost use Rattle.value_store.specs.Pieces.{PieceState, piece_limit};
+    ghost use Rattle.value_store.specs.PayloadPieces.{PieceState, piece_limit};
 
     ghost Value = { PieceState };
 

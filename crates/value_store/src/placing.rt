@@ -5,8 +5,8 @@ ghost use Rattle.std.specs.List.{AllByRecursion, flat_map};
 ghost use Rattle.trie_model.specs.Maps.{limits};
 ghost use Rattle.batch_model.specs.Batch.{IsChange, AreRising, change_form};
 ghost use Rattle.value_store.specs.Index.{IsShort, up_to};
-ghost use Rattle.value_store.specs.Reading.{laid};
-ghost use Rattle.value_store.specs.Placing.{value_place, laid_all, room_for, with_room, adds, takes, HasRoom};
+ghost use Rattle.value_store.specs.BatchReading.{laid};
+ghost use Rattle.value_store.specs.ValuePlaces.{value_place, laid_all, room_for, with_room, adds, takes, HasRoom};
 
 use crate::Place;
 use crate::index::Index;

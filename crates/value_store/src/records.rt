@@ -8,7 +8,7 @@ ghost use Rattle.store_model.specs.Record.{Record};
 ghost use Rattle.mdb_journal.specs.Journal.{Knows};
 ghost use Rattle.mdb_journal.specs.Opening.{Untouched};
 ghost use Rattle.value_store.specs.Index.{AreInFile};
-ghost use Rattle.value_store.specs.Reading.{store_fault, Standing, Found, GoesOn, RecordsFail};
+ghost use Rattle.value_store.specs.BatchReading.{store_fault, Standing, Found, GoesOn, RecordsFail};
 
 use crate::ValueFault;
 use crate::index::Index;

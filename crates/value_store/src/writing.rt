@@ -7,7 +7,7 @@ ghost use Rattle.trie_model.specs.Maps.{Map, limits};
 ghost use Rattle.batch_model.specs.Batch.{after_batch, batch_form};
 ghost use Rattle.store_model.specs.Journal.{Stands};
 ghost use Rattle.mdb_journal.specs.Journal.{payload_in, payload_limit};
-ghost use Rattle.mdb_journal.specs.Moves.{AreSynced, OthersStay};
+ghost use Rattle.mdb_journal.specs.DiskMoves.{AreSynced, OthersStay};
 ghost use Rattle.value_store.specs.Values.{Keeps, HasKeys, broken};
 ghost use Rattle.value_store.specs.Writes.{Writes, WriteFails, StandEither};
 

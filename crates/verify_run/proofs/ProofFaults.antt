@@ -7,10 +7,10 @@ use Rattle.text_model.specs.LineKind.{LineKind}
 use Rattle.range_model.specs.Ranges.{Range}
 use Rattle.text_model.specs.ReadLine.{Line, Verify as proof_lines, Point, VerifyRange, read_line}
 use Rattle.text_model.proofs.PointLines.{point_lines_are_within, range_lines_are_within}
-use Rattle.proof_model.specs.Checked.{Cause, unless_refused, checked, point_checked, range_checked, change_checked}
+use Rattle.proof_model.specs.CheckedBytes.{Cause, unless_refused, checked, point_checked, range_checked, change_checked}
 use Rattle.proof_model.specs.ChangeProofs.{ChangeProof, change_refusal}
 use Rattle.proof_model.specs.ChangeWire.{changes_of}
-use Rattle.change_proof.specs.Told.{IsReasonOr}
+use Rattle.change_proof.specs.CheckAnswers.{IsReasonOr}
 use Rattle.verify_run.specs.declared.proof_fault.ProofFault.{ProofFault}
 use Rattle.verify_run.specs.declared.proof_fault.ProofFault.TheVariants as proofs
 use Rattle.proof_model.specs.Proofs.{PointProof}
@@ -19,8 +19,8 @@ use Rattle.proof_model.specs.RangeWire.{range_of}
 use Rattle.proof_model.specs.Refusals.{Refusal, point_refusal}
 use Rattle.proof_model.specs.Wire as wire
 use Rattle.proof_model.specs.Wire.{point_of}
-use Rattle.proof_check.specs.Read.{seen_kind, IsFault}
-use Rattle.proof_check.specs.Told.{Tells}
+use Rattle.proof_check.specs.ReaderAnswers.{seen_kind, IsFault}
+use Rattle.proof_check.specs.CheckResults.{Tells}
 use Rattle.proof_check.specs.declared.verify_fault.VerifyFault.{VerifyFault}
 use Rattle.proof_check.specs.declared.verify_fault.VerifyFault.TheVariants as checks
 use Rattle.proof_check.specs.declared.wire_fault.WireKind.{WireKind}

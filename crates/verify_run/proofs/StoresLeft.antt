@@ -14,8 +14,8 @@ use Rattle.mdb_journal.specs.Opening.{Untouched}
 use Rattle.mdb_core.specs.Stores.{DbState, Keeps, is_failed}
 use Rattle.mdb_core.specs.declared.fault.DbFault.{DbFault}
 use Rattle.mdb_core.specs.declared.fault.DbFault.TheVariants as faults
-use Rattle.mdb_core.proofs.KeptStores.{kept_stands}
-use Rattle.run_model.specs.Outside.{DiskSeen}
+use Rattle.mdb_core.proofs.StoreFiles.{kept_stands}
+use Rattle.run_model.specs.OutsideThings.{DiskSeen}
 use Rattle.run_model.specs.End.{End, BadLine, NotOpened, VerifyRefused, Disk, NoMemory}
 use Rattle.run_model.specs.Store.{IsFound, OnMap}
 use Rattle.store_opening.specs.Opening.{KeepsMaps, IsOpen, FailsBy, end_of_fault}
@@ -26,8 +26,8 @@ use Rattle.text_model.specs.LineKind.{LineKind}
 use Rattle.text_model.specs.ReadLine.{Line, VerifyChanges}
 use Rattle.text_model.specs.Texts.{ok_text}
 use Rattle.proof_model.specs.ChangeProofs.{ChangeProof}
-use Rattle.proof_model.specs.Checked.{Cause, change_checked}
-use Rattle.proof_check.specs.Refused.{seen_cause}
+use Rattle.proof_model.specs.CheckedBytes.{Cause, change_checked}
+use Rattle.proof_check.specs.RefusalReasons.{seen_cause}
 use Rattle.run_model.specs.Verify.{Fault, tells_changes, read_verdict, listed_verdict, changes_verdict}
 use Rattle.verify_run.specs.declared.proof_fault.ProofFault.{ProofFault}
 use Rattle.verify_run.specs.declared.proof_fault.ProofFault.TheVariants as proofs
@@ -35,7 +35,7 @@ use Rattle.verify_run.specs.declared.end.VerifyEnd.{VerifyEnd}
 use Rattle.verify_run.specs.declared.end.VerifyEnd.TheVariants as ends
 use Rattle.verify_run.specs.Checks.{IsUnread, IsRefusedOr, IsCounted, IsShown, TellsStore, IsNotShown, IsOfNoStore, end_at}
 use Rattle.verify_run.specs.Ends.{end_of, Leaves, LineEnds, IsEarlyEnd}
-use Rattle.verify_run.specs.Locals.{IsOpened, IsLocal, Opens, IsLeft, LeavesDisk, asked_by, Goes, Stops}
+use Rattle.verify_run.specs.LocalStores.{IsOpened, IsLocal, Opens, IsLeft, LeavesDisk, asked_by, Goes, Stops}
 use Rattle.verify_run.proofs.ProofFaults.{not_understood}
 
 -- files are found to be one thing

@@ -22,20 +22,20 @@ use Rattle.run_model.specs.Command.{Verify}
 use Rattle.run_model.specs.End.{End, Done, BadWords, BadLine, VerifyRefused, NotHeld, NotOpened, Limit, Read, Write, Disk, NoMemory}
 use Rattle.run_model.specs.Laws.{PassedLinesAreTrue}
 use Rattle.run_model.specs.Outcome.{CameTo}
-use Rattle.run_model.specs.Outside.{DiskSeen, Outside, outside}
+use Rattle.run_model.specs.OutsideThings.{DiskSeen, Outside, outside}
 use Rattle.run_model.specs.Runs.{SharedRuns}
 use Rattle.run_model.specs.Store.{IsFound, NeedsStore}
 use Rattle.run_model.specs.Verify.{Fault, NotUnderstood, Refused, Unopened, fault_end, verdict, asks_store, asks_on, end_unless, line_end, verify_decided, verify_outcome, IsFoundIfAsked, IsVerdict, VerifyRuns}
-use Rattle.run_model.proofs.Telling.{where_told, always, rose_at_last}
+use Rattle.run_model.proofs.ToldThings.{where_told, always, rose_at_last}
 use Rattle.verify_run.specs.declared.end.VerifyEnd.{VerifyEnd}
 use Rattle.verify_run.specs.declared.end.VerifyEnd.TheVariants as ends
-use Rattle.proof_check.specs.Refused.{seen_cause}
+use Rattle.proof_check.specs.RefusalReasons.{seen_cause}
 use Rattle.store_opening.specs.Opening.{end_of_fault}
 use Rattle.verify_run.specs.Checks.{TellsStore}
 use Rattle.verify_run.specs.Ends.{end_of, reader_end, Breaks, LineEnds, MayEnd}
-use Rattle.verify_run.specs.Locals.{IsLocal, IsLeft, asked_by, IsFoundWhere, Stops}
+use Rattle.verify_run.specs.LocalStores.{IsLocal, IsLeft, asked_by, IsFoundWhere, Stops}
 use Rattle.mdb_core.specs.declared.fault.DbFault.{DbFault}
-use Rattle.proof_model.specs.Checked.{Cause}
+use Rattle.proof_model.specs.CheckedBytes.{Cause}
 use Rattle.verify_run.proofs.StoresLeft.{local_left, local_untouched, store_end}
 use Rattle.verify_run.proofs.LinesSoFar.{passes, DoneLines, SoFar, Within, Ends, EndsSo, PrintsFront, front_printed, ends_at_end, ends_past, ends_overlong, ends_given, breaks_given, asks_given}
 

@@ -5,7 +5,7 @@ use Rattle.range_model.specs.Ranges.{IsRange}
 use Rattle.text_model.specs.LineKind.{LineKind}
 use Rattle.text_model.specs.ReadLine.{Line, Point, VerifyRange}
 use Rattle.text_model.specs.Texts.{ok_text}
-use Rattle.proof_model.specs.Checked.{Cause}
+use Rattle.proof_model.specs.CheckedBytes.{Cause}
 use Rattle.run_model.specs.End.{End, NotOpened}
 use Rattle.run_model.specs.Verify.{Fault, Refused, Unopened}
 use Rattle.mdb_core.specs.declared.fault.DbFault.TheVariants.{Disk as disk_fault}
@@ -16,7 +16,7 @@ use Rattle.proof_check.specs.declared.verify_fault.VerifyFault.TheVariants as ch
 use Rattle.proof_check.specs.declared.wire_fault.WireKind.{WireKind}
 use Rattle.proof_check.specs.declared.wire_fault.WireKind.TheVariants as kinds
 use Rattle.proof_check.specs.declared.wire_fault.WireFault.{WireFault}
-use Rattle.proof_check.specs.Refused.{seen_cause}
+use Rattle.proof_check.specs.RefusalReasons.{seen_cause}
 use Rattle.verify_run.specs.declared.proof_fault.ProofFault.{ProofFault}
 use Rattle.verify_run.specs.declared.proof_fault.ProofFault.TheVariants as faults
 use Rattle.verify_run.specs.declared.end.VerifyEnd.{VerifyEnd}

@@ -8,7 +8,7 @@ use Rattle.run_model.specs.End.{End, Done, BadLine, VerifyRefused, Limit, Read, 
 use Rattle.run_model.specs.Verify.{Fault, NotUnderstood, Refused}
 use Rattle.batch_text.specs.declared.reader.ReaderFault.{ReaderFault}
 use Rattle.batch_text.specs.declared.reader.ReaderFault.TheVariants.{Read as ReadFault, Limit as LimitFault, Overlong, NoMemory as NoMemoryOfReader}
-use Rattle.proof_check.specs.Refused.{seen_cause}
+use Rattle.proof_check.specs.RefusalReasons.{seen_cause}
 use Rattle.store_opening.specs.Opening.{end_of_fault}
 use Rattle.verify_run.specs.Checks.{TellsStore}
 use Rattle.verify_run.specs.declared.end.VerifyEnd.{VerifyEnd}

@@ -1,3 +1,3 @@
 pub mod Ends
 pub mod Checks
-pub mod Locals
+pub mod LocalStores

@@ -4,13 +4,13 @@ ghost use Rattle.base_model.specs.Faults.{TellsAlike};
 ghost use Rattle.text_model.specs.ReadLine.{Verify, read_line as line_of};
 ghost use Rattle.trie_model.specs.Maps.{Map};
 ghost use Rattle.store_model.specs.Refusals.{Refusal};
-ghost use Rattle.run_model.specs.Outside.{DiskSeen, disk_seen};
+ghost use Rattle.run_model.specs.OutsideThings.{DiskSeen, disk_seen};
 ghost use Rattle.run_model.specs.Verify.{Fault, read_verdict, tells_changes};
 ghost use Rattle.bit_keys.specs.Branch.{width_of};
 ghost use Rattle.batch_text.specs.SeenLine.{seen_line};
 ghost use Rattle.verify_run.specs.Checks.{IsUnread, AsLine, IsShown, IsNotShown, IsOfNoStore, end_at};
 ghost use Rattle.verify_run.specs.Ends.{end_of, Leaves, Passes, LineEnds, MayEnd, IsEarlyEnd};
-ghost use Rattle.verify_run.specs.Locals.{IsLocal, Goes, Stops};
+ghost use Rattle.verify_run.specs.LocalStores.{IsLocal, Goes, Stops};
 
 use crate::change_lines::changes_at;
 use crate::end::VerifyEnd;

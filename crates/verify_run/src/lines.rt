@@ -1,6 +1,6 @@
 // All lines of an input.
 ghost use Rattle.std.specs.Prelude.{◌≡◌, false, IfSome};
-ghost use Rattle.run_model.specs.Outside.{outside, disk_seen};
+ghost use Rattle.run_model.specs.OutsideThings.{outside, disk_seen};
 ghost use Rattle.run_model.specs.Command.{Verify};
 ghost use Rattle.run_model.specs.Verify.{VerifyRuns};
 ghost use Rattle.run_model.specs.Runs.{SharedRuns};

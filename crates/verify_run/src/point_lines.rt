@@ -2,13 +2,13 @@
 ghost use Rattle.std.specs.Prelude.{◌≡◌, ◌≤◌, ◌<◌, Ok, IfOk, IfErr, length};
 ghost use Rattle.std.specs.List.{AllByRecursion};
 ghost use Rattle.trie_model.specs.Maps.{key_limit, limits};
-ghost use Rattle.proof_model.specs.Checked.{point_checked};
+ghost use Rattle.proof_model.specs.CheckedBytes.{point_checked};
 ghost use Rattle.proof_model.specs.Paths.{IsProofNode};
 ghost use Rattle.proof_model.specs.Proofs.{PointProof as ShownPoint};
 ghost use Rattle.proof_model.specs.Refusals.{point_refusal};
 ghost use Rattle.run_model.specs.Verify.{pairs_shown};
 ghost use Rattle.bit_keys.specs.Branch.{width_of};
-ghost use Rattle.proof_check.specs.Told.{Tells};
+ghost use Rattle.proof_check.specs.CheckResults.{Tells};
 ghost use Rattle.verify_run.specs.Checks.{IsRefused};
 
 use crate::proof_fault::{ProofFault, fault_of_check, fault_of_wire};

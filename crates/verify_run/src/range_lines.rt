@@ -2,11 +2,11 @@
 ghost use Rattle.std.specs.Prelude.{◌≡◌, ◌<◌, Ok, IfOk, IfErr, length};
 ghost use Rattle.trie_model.specs.Maps.{limits};
 ghost use Rattle.range_model.specs.Ranges.{IsRange};
-ghost use Rattle.proof_model.specs.Checked.{range_checked};
+ghost use Rattle.proof_model.specs.CheckedBytes.{range_checked};
 ghost use Rattle.proof_model.specs.RangeLaws.{IsRangeClaim};
 ghost use Rattle.proof_model.specs.RangeProofs.{RangeProof as ShownRange, range_refusal};
 ghost use Rattle.bit_keys.specs.Branch.{width_of};
-ghost use Rattle.proof_check.specs.Told.{Tells};
+ghost use Rattle.proof_check.specs.CheckResults.{Tells};
 ghost use Rattle.verify_run.specs.Checks.{IsRefused};
 
 use crate::proof_fault::{ProofFault, fault_of_check, fault_of_wire};

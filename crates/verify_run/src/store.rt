@@ -2,9 +2,9 @@
 ghost use Rattle.std.specs.Prelude.{◌≡◌, ◌≤◌, false, IfOk, IfErr, IfSome};
 ghost use Rattle.bit_keys.specs.Branch.{width_of};
 ghost use Rattle.mdb_core.specs.Stores.{is_failed};
-ghost use Rattle.run_model.specs.Outside.{DiskSeen, disk_seen};
+ghost use Rattle.run_model.specs.OutsideThings.{DiskSeen, disk_seen};
 ghost use Rattle.store_opening.specs.Opening.{KeepsMaps, FailsBy, end_of_fault};
-ghost use Rattle.verify_run.specs.Locals.{IsLocal, IsOpened};
+ghost use Rattle.verify_run.specs.LocalStores.{IsLocal, IsOpened};
 ghost use Rattle.verify_run.specs.declared.end.VerifyEnd.TheVariants.{Done as done};
 
 use crate::end::VerifyEnd;

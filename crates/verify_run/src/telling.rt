@@ -2,7 +2,7 @@
 ghost use Rattle.std.specs.Prelude.{◌≡◌, ◌++◌, codes, IfOk, string_bytes};
 ghost use Rattle.hex.specs.Hex.{encode_lower};
 ghost use Rattle.proof_model.specs.CauseWords.{cause_words};
-ghost use Rattle.proof_check.specs.Refused.{seen_cause};
+ghost use Rattle.proof_check.specs.RefusalReasons.{seen_cause};
 
 use bit_keys::Id;
 use mdb_base::NoMemory;

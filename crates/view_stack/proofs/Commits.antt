@@ -11,13 +11,13 @@ use Rattle.view_stack.specs.Slots.{TreeState}
 use Rattle.view_stack.specs.Tree.{Has, slot_at, kept_at, live_at, is_live_kept, taken}
 use Rattle.view_stack.specs.Links.{parent_at, IsOn, IsRooted, IsSound}
 use Rattle.view_stack.specs.Paths.{parents, tree_path}
-use Rattle.view_stack.specs.Ends.{Ends, IsBeside}
+use Rattle.view_stack.specs.EndedViews.{Ends, IsBeside}
 use Rattle.view_stack.specs.Forests.{kept_batch, is_closed, kept_state, forest_of, IsMarked}
-use Rattle.view_stack.proofs.Held.{live_has, same_parents, length-with_slot}
+use Rattle.view_stack.proofs.WrittenViews.{live_has, same_parents, length-with_slot}
 use Rattle.view_stack.proofs.Paths.{tree_path-step}
-use Rattle.view_stack.proofs.Ended.{count_same, has_same, tree_path-ends, was_on}
-use Rattle.view_stack.proofs.Taken.{IsOnly, kept_other, kept_here, sound_taken}
-use Rattle.view_stack.proofs.Taken as takes
+use Rattle.view_stack.proofs.ManyViewsEnd.{count_same, has_same, tree_path-ends, was_on}
+use Rattle.view_stack.proofs.LinksAfterCommit.{IsOnly, kept_other, kept_here, sound_taken}
+use Rattle.view_stack.proofs.LinksAfterCommit as takes
 use Rattle.view_stack.proofs.Forests.{tree_view, view_as, view_moved, same_forest, same_views, is_live_state, state-view}
 
 -- what is kept of a view after a commit: the same, unless it was live

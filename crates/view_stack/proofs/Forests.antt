@@ -15,7 +15,7 @@ use Rattle.view_stack.specs.Links.{parent_at, IsRooted, IsSound}
 use Rattle.view_stack.specs.Paths.{parents, path_by, tree_path}
 use Rattle.view_stack.specs.Forests.{kept_batch, is_closed, kept_state, view_in, views_from, forest_of, IsMarked}
 use Rattle.view_stack.proofs.Paths.{AreBelow, tree_path-step, live_ahead}
-use Rattle.view_stack.proofs.Ended.{parent_same}
+use Rattle.view_stack.proofs.ManyViewsEnd.{parent_same}
 
 -- ---- by their numbers
 

@@ -10,8 +10,8 @@ use Rattle.view_stack.specs.Slots.{TreeState}
 use Rattle.view_stack.specs.Tree.{Has, no_slot, live_at}
 use Rattle.view_stack.specs.Links.{parent_at, IsOpen, IsRooted}
 use Rattle.view_stack.specs.Paths.{parents, path_within, path_by, tree_path}
-use Rattle.view_stack.specs.Ends.{IsOver}
-use Rattle.view_stack.proofs.Held.{live_has}
+use Rattle.view_stack.specs.EndedViews.{IsOver}
+use Rattle.view_stack.proofs.WrittenViews.{live_has}
 
 -- ---- lists
 

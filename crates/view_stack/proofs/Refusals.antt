@@ -19,8 +19,8 @@ use Rattle.view_stack.specs.Tree.{Has, kept_at, live_at, is_live_kept}
 use Rattle.view_stack.specs.Links.{IsOpen}
 use Rattle.view_stack.specs.Paths.{tree_path}
 use Rattle.view_stack.specs.Forests.{kept_batch, kept_state, forest_of, IsTree}
-use Rattle.view_stack.specs.Told.{state_told, fault_told}
-use Rattle.view_stack.proofs.Held.{live_has}
+use Rattle.view_stack.specs.ViewAnswers.{state_told, fault_told}
+use Rattle.view_stack.proofs.WrittenViews.{live_has}
 use Rattle.view_stack.proofs.Forests.{view_of-forest, state-forest, state-none, store-forest, path_of-forest, count-forest, weight-forest}
 
 -- ---- variants

@@ -7,9 +7,9 @@ use Rattle.view_stack.specs.Slots.{TreeState}
 use Rattle.view_stack.specs.Tree.{slot_at, first_on, live_at, is_live_kept}
 use Rattle.view_stack.specs.Links.{parent_at, next_at, IsOn, IsRooted, IsLinked}
 use Rattle.view_stack.specs.Paths.{parents, path_by}
-use Rattle.view_stack.specs.Ends.{Ends, IsOver, IsBeside}
-use Rattle.view_stack.proofs.Held.{live_has}
-use Rattle.view_stack.proofs.Ended.{was_on, still_on, sibling_stays, beside_on, first_falls}
+use Rattle.view_stack.specs.EndedViews.{Ends, IsOver, IsBeside}
+use Rattle.view_stack.proofs.WrittenViews.{live_has}
+use Rattle.view_stack.proofs.ManyViewsEnd.{was_on, still_on, sibling_stays, beside_on, first_falls}
 
 pub first_on-last : (t : TreeState) → first_on t t.last ≡ t.top
 first_on-last t = ap (λ b. cond b t.top (slot_at t.slots t.last).first) (eq-eqb t.last t.last refl)

@@ -13,19 +13,19 @@ use Rattle.view_stack.specs.Slots.{TreeState}
 use Rattle.view_stack.specs.Tree.{slot_at, kept_at, live_at, is_live_kept, kept_weight, added, added_committed, taken}
 use Rattle.view_stack.specs.Links.{parent_at, IsOpen, IsOn, IsSound}
 use Rattle.view_stack.specs.Paths.{path_by, tree_path}
-use Rattle.view_stack.specs.Ends.{Ends, IsOver, IsBeside}
+use Rattle.view_stack.specs.EndedViews.{Ends, IsOver, IsBeside}
 use Rattle.view_stack.specs.Forests.{forest_of, IsTree, IsStack}
-use Rattle.view_stack.proofs.Held.{live_has, length-with_slot, length-with_more}
+use Rattle.view_stack.proofs.WrittenViews.{live_has, length-with_slot, length-with_more}
 use Rattle.view_stack.proofs.Weights.{lighter}
 use Rattle.view_stack.proofs.Paths.{tree_path-step, live_ahead}
-use Rattle.view_stack.proofs.Ended.{count_same, ends_then}
-use Rattle.view_stack.proofs.EndedOne.{dead_weight}
-use Rattle.view_stack.proofs.Taken.{IsOnly, sound_taken, sound_direct}
-use Rattle.view_stack.proofs.Added.{added_is, sound_added}
+use Rattle.view_stack.proofs.ManyViewsEnd.{count_same, ends_then}
+use Rattle.view_stack.proofs.OneViewEnds.{dead_weight}
+use Rattle.view_stack.proofs.LinksAfterCommit.{IsOnly, sound_taken, sound_direct}
+use Rattle.view_stack.proofs.AddedViews.{added_is, sound_added}
 use Rattle.view_stack.proofs.Forests.{path_of-forest, store-forest}
-use Rattle.view_stack.proofs.Closes.{marked_closed}
+use Rattle.view_stack.proofs.ClosedViews.{marked_closed}
 use Rattle.view_stack.proofs.Commits.{marked_taken}
-use Rattle.view_stack.proofs.Mores.{marked_direct, marked_made}
+use Rattle.view_stack.proofs.ForestGrowth.{marked_direct, marked_made}
 use Rattle.view_stack.proofs.Refusals.{live_in_tree, IsWithin}
 
 -- what ends weighs no more

@@ -2,6 +2,6 @@ pub mod Slots
 pub mod Tree
 pub mod Links
 pub mod Paths
-pub mod Ends
+pub mod EndedViews
 pub mod Forests
-pub mod Told
+pub mod ViewAnswers

@@ -6,7 +6,7 @@ ghost use Rattle.view_stack.specs.Tree.{live_at};
 ghost use Rattle.view_stack.specs.Links.{IsOpen};
 ghost use Rattle.view_stack.specs.Paths.{tree_path};
 ghost use Rattle.view_stack.specs.Forests.{kept_state, forest_of, IsTree};
-ghost use Rattle.view_stack.specs.Told.{state_told, fault_told, number_in};
+ghost use Rattle.view_stack.specs.ViewAnswers.{state_told, fault_told, number_in};
 
 use crate::{Kept, Tree, ViewFault, ViewId, ViewState};
 use mdb_base::Batch;

@@ -2,7 +2,7 @@
 ghost use Rattle.std.specs.Prelude.{◌≡◌, ◌≢◌, ◌⊎◌, ◌≤◌, true, false};
 ghost use Rattle.view_stack.specs.Tree.{Has, slot_at, kept_weight, kept_at, live_at, marked, let_go, unlinked};
 ghost use Rattle.view_stack.specs.Links.{IsSound, IsLinked, IsOn, next_at};
-ghost use Rattle.view_stack.specs.Ends.{Ends, IsOver, IsBeside};
+ghost use Rattle.view_stack.specs.EndedViews.{Ends, IsOver, IsBeside};
 
 use crate::{Kept, Tree};
 use std::mem;

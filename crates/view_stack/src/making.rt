@@ -1,7 +1,7 @@
 // Views that are made, and direct batches.
 ghost use Rattle.std.specs.Prelude.{◌≡◌, ◌+◌, ◌<◌, length, is_ok, max, if◌then◌else◌, OnOk, IfErr};
 ghost use Rattle.view_model.specs.Calls.{number_limit, Make, Direct, Given, Step};
-ghost use Rattle.view_stack.specs.Told.{number_in, given_answer, RoomFails};
+ghost use Rattle.view_stack.specs.ViewAnswers.{number_in, given_answer, RoomFails};
 
 use crate::admitting::NUMBER_LIMIT;
 use crate::{ViewFault, ViewId, ViewStack};

@@ -3,7 +3,7 @@ ghost use Rattle.std.specs.Prelude.{◌≡◌, length, drop, Some, IfOk, MatchOp
 ghost use Rattle.view_model.specs.Forest.{Live, no_views, state, path_of};
 ghost use Rattle.view_model.specs.Calls.{make_refused};
 ghost use Rattle.view_model.specs.Maps.{changes_of};
-ghost use Rattle.view_stack.specs.Told.{state_told, fault_told, number_in, numbers};
+ghost use Rattle.view_stack.specs.ViewAnswers.{state_told, fault_told, number_in, numbers};
 
 use crate::{Kept, Tree, ViewFault, ViewId, ViewState};
 use mdb_base::{Batch, NoMemory};

@@ -1,7 +1,7 @@
 // Views that are closed or committed.
 ghost use Rattle.std.specs.Prelude.{◌≡◌};
 ghost use Rattle.view_model.specs.Calls.{Close, Commit, Done, Step, MayCommit};
-ghost use Rattle.view_stack.specs.Told.{done_answer};
+ghost use Rattle.view_stack.specs.ViewAnswers.{done_answer};
 
 use crate::{ViewFault, ViewId, ViewStack};
 

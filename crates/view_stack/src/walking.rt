@@ -5,7 +5,7 @@ ghost use Rattle.view_stack.specs.Tree.{Has, kept_at, live_at};
 ghost use Rattle.view_stack.specs.Forests.{kept_batch};
 ghost use Rattle.view_stack.specs.Links.{IsRooted, IsOpen};
 ghost use Rattle.view_stack.specs.Paths.{tree_path};
-ghost use Rattle.view_stack.specs.Told.{numbers};
+ghost use Rattle.view_stack.specs.ViewAnswers.{numbers};
 
 use crate::{Kept, Tree, ViewId};
 use mdb_base::{Batch, NoMemory};

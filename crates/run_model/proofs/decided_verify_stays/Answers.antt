@@ -1,4 +1,4 @@
-use Rattle.run_model.proofs.Verifying.{decided_verify_stays}
+use Rattle.run_model.proofs.VerifyLines.{decided_verify_stays}
 use Rattle.run_model.proofs.decided_verify_stays.Goals as goal
 
 pub returns : goal.returns

@@ -1,4 +1,4 @@
-use Rattle.run_model.proofs.Verifying.{passed_lines_are_true}
+use Rattle.run_model.proofs.VerifyLines.{passed_lines_are_true}
 use Rattle.run_model.proofs.passed_lines_are_true.Goals as goal
 
 pub returns : goal.returns

@@ -1,4 +1,4 @@
-use Rattle.session_model.proofs.Acknowledged.{acknowledged_stand}
+use Rattle.session_model.proofs.AcknowledgedCommits.{acknowledged_stand}
 use Rattle.session_model.proofs.acknowledged_stand.Goals as goal
 
 pub returns : goal.returns

@@ -1,4 +1,4 @@
-use Rattle.session_model.proofs.Deciding.{decided_stops}
+use Rattle.session_model.proofs.DecidedScripts.{decided_stops}
 use Rattle.session_model.proofs.decided_stops.Goals as goal
 
 pub returns : goal.returns

@@ -1,5 +1,5 @@
 use Rattle.std.proofs.Common.{arith}
-use Rattle.bit_keys.proofs.Shared.{ended}
+use Rattle.bit_keys.proofs.SharedBits.{ended}
 use Rattle.bit_keys.proofs.key.equal_bytes.Goals as goal
 
 pub returns-else-equal-b : goal.returns-else-equal-b

@@ -1,5 +1,5 @@
 use Rattle.std.proofs.Common.{arith}
-use Rattle.bit_keys.proofs.Parts.{whole_filled, part_filled}
+use Rattle.bit_keys.proofs.FilledBytes.{whole_filled, part_filled}
 use Rattle.bit_keys.proofs.key.is_filled_up.Goals as goal
 
 pub returns-then-rest-eq0 : goal.returns-then-rest-eq0

@@ -1,7 +1,7 @@
 use Rattle.std.proofs.Common.{◌≡◌, ◌++◌, ◌-◌, ◌∙◌, ap, drop, take, length}
-use Rattle.change_history.specs.Nets.{nets_of}
-use Rattle.change_history.specs.Merged.{added_of}
-use Rattle.change_history.proofs.Answered.{merge_step, turned_here, slice_rest, step_within, one_added, none_added}
+use Rattle.change_history.specs.NetChanges.{nets_of}
+use Rattle.change_history.specs.MergedDeltas.{added_of}
+use Rattle.change_history.proofs.CallAnswers.{merge_step, turned_here, slice_rest, step_within, one_added, none_added}
 use Rattle.change_history.proofs.merging.merge.Goals as goal
 use Rattle.change_history.proofs.merging.merge.Goals.{in-Some-added+in_ok-push, in_default-added}
 

@@ -1,7 +1,7 @@
 use Rattle.std.proofs.Common.{◌≤◌, ◌+◌, ◌-◌, length, drop}
-use Rattle.change_history.specs.Nets.{nets_of}
-use Rattle.change_history.specs.Merged.{AreOrdered}
-use Rattle.change_history.proofs.Runs.{Merging}
+use Rattle.change_history.specs.NetChanges.{nets_of}
+use Rattle.change_history.specs.MergedDeltas.{AreOrdered}
+use Rattle.change_history.proofs.MergedRuns.{Merging}
 use Rattle.change_history.proofs.merging.merge.Given as goal
 
 abbrev pub invariant-loop-step : goal.invariant-loop-step

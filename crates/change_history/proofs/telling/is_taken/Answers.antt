@@ -1,4 +1,4 @@
-use Rattle.change_history.proofs.Takes.{fits_first, fits_behind}
+use Rattle.change_history.proofs.TakenChanges.{fits_first, fits_behind}
 use Rattle.change_history.proofs.telling.is_taken.Goals as goal
 
 pub returns-then-others-eq0 : goal.returns-then-others-eq0

@@ -1,5 +1,5 @@
 use Rattle.std.proofs.Common.{◌≡◌, ◌∙◌, ap}
-use Rattle.change_history.proofs.Answered.{taken_no_more, taken_more, still_few, taken_all}
+use Rattle.change_history.proofs.CallAnswers.{taken_no_more, taken_more, still_few, taken_all}
 use Rattle.change_history.proofs.telling.take.Goals as goal
 
 pub returns-then-not-is_taken : goal.returns-then-not-is_taken

@@ -1,7 +1,7 @@
 use Rattle.std.proofs.Common.{◌<◌, ◌^◌, ◌≡◌, drop, length, map}
 use Rattle.history_model.specs.Changes.{change_of, change_size}
-use Rattle.change_history.specs.Nets.{nets_of}
-use Rattle.change_history.proofs.Takes.{Taking}
+use Rattle.change_history.specs.NetChanges.{nets_of}
+use Rattle.change_history.proofs.TakenChanges.{Taking}
 use Rattle.change_history.proofs.telling.take.Given as goal
 
 abbrev pub invariant-loop-net : goal.invariant-loop-net

@@ -1,7 +1,7 @@
 use Rattle.std.proofs.Common.{◌≡◌, ℕ, ◌<◌, ◌≤◌, ◌∙◌, ◌∷◌, length, sym, ap, arith}
 use Rattle.std.specs.List.{sum_by}
 use Rattle.change_history.specs.Histories.{commit_weight, kept}
-use Rattle.change_history.proofs.Kept.{one_more, room_left, sum-cons, kept-take, length-kept, length-take_most}
+use Rattle.change_history.proofs.KeptCommits.{one_more, room_left, sum-cons, kept-take, length-kept, length-take_most}
 use Rattle.change_history.proofs.trimming.put.Goals as goal
 use Rattle.change_history.proofs.trimming.put.Goals.{in-Some, in_default}
 

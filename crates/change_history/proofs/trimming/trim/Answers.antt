@@ -1,7 +1,7 @@
 use Rattle.std.proofs.Common.{◌≡◌, ℕ, ◌<◌, ◌≤◌, ◌∙◌, sym, ap, arith}
 use Rattle.std.specs.List.{sum_by}
 use Rattle.change_history.specs.Histories.{CommitState, commit_weight}
-use Rattle.change_history.proofs.Kept.{kept-all, none_left, one_less}
+use Rattle.change_history.proofs.KeptCommits.{kept-all, none_left, one_less}
 use Rattle.change_history.proofs.trimming.trim.Goals as goal
 
 pub returns-in_default-clause-weight : goal.returns-in_default-clause-weight

@@ -1,9 +1,9 @@
 use Rattle.std.proofs.Common.{◌≡◌, ◌∙◌, None, ap, map, take, subst}
 use Rattle.batch_model.specs.Batch.{AreRising, set_change, after_batch}
 use Rattle.change_history.specs.Histories.{undo_of}
-use Rattle.change_history.specs.Nets.{net_of, nets_of}
-use Rattle.change_history.proofs.Answered.{one_further}
-use Rattle.change_history.proofs.Undone.{one_undone}
+use Rattle.change_history.specs.NetChanges.{net_of, nets_of}
+use Rattle.change_history.proofs.CallAnswers.{one_further}
+use Rattle.change_history.proofs.WayBack.{one_undone}
 use Rattle.change_history.proofs.undoing.undo.Goals as goal
 
 pub loop-net-preserved : goal.loop-net-preserved

@@ -2,7 +2,7 @@ use Rattle.std.proofs.Common.{◌≡◌, map, take}
 use Rattle.trie_model.specs.Maps.{Map}
 use Rattle.batch_model.specs.Batch.{after_batch}
 use Rattle.change_history.specs.Histories.{undo_of}
-use Rattle.change_history.specs.Nets.{nets_of}
+use Rattle.change_history.specs.NetChanges.{nets_of}
 use Rattle.change_history.proofs.undoing.undo.Given as goal
 
 abbrev pub invariant-loop-net : goal.invariant-loop-net

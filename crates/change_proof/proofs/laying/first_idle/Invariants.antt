@@ -4,8 +4,8 @@ use Rattle.base_model.specs.Bytes.{bytes_cmp}
 use Rattle.base_model.specs.Member.{Member}
 use Rattle.batch_model.specs.Batch.{Change}
 use Rattle.proof_model.specs.Refusals.{first_place}
-use Rattle.proof_model.specs.Sound.{AreSorted}
-use Rattle.change_proof.specs.Laying.{is_idle_in}
+use Rattle.proof_model.specs.SoundProofs.{AreSorted}
+use Rattle.change_proof.specs.LaidChanges.{is_idle_in}
 use Rattle.change_proof.proofs.laying.first_idle.Given as goal
 
 -- no change up to here is idle, and the later ones find in the rest what they find in all pairs

@@ -1,5 +1,5 @@
 use Rattle.std.proofs.Common.{◌≡◌, drop}
-use Rattle.change_proof.specs.Laying.{from}
+use Rattle.change_proof.specs.LaidChanges.{from}
 use Rattle.change_proof.proofs.laying.from.Given as goal
 
 abbrev pub invariant-loop-i : goal.invariant-loop-i

@@ -1,7 +1,7 @@
 use Rattle.std.proofs.Common.{map, ap, ◌∙◌}
 use Rattle.batch_model.specs.Batch.{Change}
 use Rattle.proof_check.specs.Claims.{pair_of}
-use Rattle.change_proof.specs.Laying.{laid}
+use Rattle.change_proof.specs.LaidChanges.{laid}
 use Rattle.change_proof.proofs.LaidPairs.{laid_more}
 use Rattle.change_proof.proofs.laying.lay.Goals as goal
 

@@ -1,7 +1,7 @@
 use Rattle.std.proofs.Common.{◌≡◌, ◌++◌, map, drop}
-use Rattle.proof_model.specs.Sound.{AreSorted}
+use Rattle.proof_model.specs.SoundProofs.{AreSorted}
 use Rattle.proof_check.specs.Claims.{pair_of}
-use Rattle.change_proof.specs.Laying.{laid}
+use Rattle.change_proof.specs.LaidChanges.{laid}
 use Rattle.change_proof.proofs.laying.lay.Given as goal
 
 -- what was made, and what the changes that are left make of the rest, are the pairs after all changes

@@ -3,8 +3,8 @@ use Rattle.std.specs.Prelude.{Vec, option_map}
 use Rattle.std.specs.FinMap.{get}
 use Rattle.std.specs.declared.alloc.Global.{Global}
 use Rattle.trie_items.specs.Sources.{next_key}
-use Rattle.point_proof.proofs.Calls.{nothing_called, then_well, lacks_memory}
-use Rattle.range_proof.specs.Taking.{in_range}
+use Rattle.point_proof.proofs.SourceCalls.{nothing_called, then_well, lacks_memory}
+use Rattle.range_proof.specs.TakenKeys.{in_range}
 use Rattle.change_proof.proofs.LocalPairs.{starts, ends, never_none, steps, starts_in_order, steps_in_order, fewer}
 use Rattle.change_proof.proofs.local.pairs_of.Goals as goal
 

@@ -1,6 +1,6 @@
 use Rattle.std.specs.Prelude.{option_map}
 use Rattle.trie_model.specs.Maps.{Map}
-use Rattle.point_proof.proofs.Calls.{WentWell}
+use Rattle.point_proof.proofs.SourceCalls.{WentWell}
 use Rattle.change_proof.proofs.LocalPairs.{OnListing, InOrder, left}
 use Rattle.change_proof.proofs.local.pairs_of.Given as goal
 

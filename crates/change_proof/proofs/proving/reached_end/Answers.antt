@@ -1,8 +1,8 @@
 use Rattle.std.proofs.Common.{ap, ◌∙◌, refl}
 use Rattle.std.specs.Option.{option_copied}
 use Rattle.batch_model.specs.Batch.{Change}
-use Rattle.range_proof.proofs.Reached.{last_is}
-use Rattle.change_proof.proofs.Ends.{reached_end-cut}
+use Rattle.range_proof.proofs.CheckedRange.{last_is}
+use Rattle.change_proof.proofs.LastChange.{reached_end-cut}
 use Rattle.change_proof.proofs.proving.reached_end.Goals as goal
 
 pub returns-in-Some : goal.returns-in-Some

@@ -1,8 +1,8 @@
 use Rattle.std.proofs.Common.{ap, ◌∙◌, sym, Err}
 use Rattle.std.proofs.lemmas.Result.{err_from_is_err_and}
 use Rattle.bit_keys.specs.Branch.{width_of}
-use Rattle.range_proof.specs.Reaching.{or_asked}
-use Rattle.change_proof.proofs.Early.{told_by_map, told_early, costs_none, short_keys, asked_holds, rising, reached_holds, told_late}
+use Rattle.range_proof.specs.ReachedRanges.{or_asked}
+use Rattle.change_proof.proofs.EarlyReasons.{told_by_map, told_early, costs_none, short_keys, asked_holds, rising, reached_holds, told_late}
 use Rattle.change_proof.proofs.verifying.check_changes.Goals as goal
 
 pub returns-in_err-check_early-clause-refusal : goal.returns-in_err-check_early-clause-refusal

@@ -2,8 +2,8 @@ use Rattle.std.proofs.Common.{map, ap, ◌∙◌}
 use Rattle.bit_keys.specs.Branch.{width_of}
 use Rattle.proof_model.specs.ChangeProofs.{ChangeProof}
 use Rattle.proof_check.specs.Claims.{pair_of}
-use Rattle.change_proof.specs.Laying.{laid}
-use Rattle.change_proof.proofs.Late.{late_idle, idle_at, is_told, is_late, is_cost}
+use Rattle.change_proof.specs.LaidChanges.{laid}
+use Rattle.change_proof.proofs.CheckedRange.{late_idle, idle_at, is_told, is_late, is_cost}
 use Rattle.change_proof.proofs.verifying.check_local.Goals as goal
 
 pub returns-in-Some-clause-refusal : goal.returns-in-Some-clause-refusal

@@ -2,9 +2,9 @@ use Rattle.std.proofs.Common.{ap, ◌∙◌, sym, Some}
 use Rattle.std.specs.Option.{option_copied}
 use Rattle.batch_model.specs.Batch.{Change}
 use Rattle.proof_model.specs.ChangeProofs.{ChangeProof}
-use Rattle.proof_model.specs.Takings.{end_or}
-use Rattle.range_proof.proofs.Reached.{last_is}
-use Rattle.change_proof.proofs.Ends.{changes_reach-cut}
+use Rattle.proof_model.specs.TakenEntries.{end_or}
+use Rattle.range_proof.proofs.CheckedRange.{last_is}
+use Rattle.change_proof.proofs.LastChange.{changes_reach-cut}
 use Rattle.change_proof.proofs.verifying.shorter.Goals as goal
 
 pub returns-clause-reach : goal.returns-clause-reach

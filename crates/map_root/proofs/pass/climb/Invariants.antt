@@ -1,7 +1,7 @@
 use Rattle.std.proofs.Common.{◌≤◌, length}
 use Rattle.bit_keys.specs.Branch.{width_of}
 use Rattle.map_root.specs.PassState.{PassState}
-use Rattle.map_root.specs.Kept.{Stands, StandsNested}
+use Rattle.map_root.specs.KeptNodes.{Stands, StandsNested}
 use Rattle.map_root.proofs.PassSteps.{Toward}
 use Rattle.map_root.proofs.pass.climb.Given as goal
 

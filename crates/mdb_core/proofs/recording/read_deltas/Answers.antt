@@ -7,7 +7,7 @@ use Rattle.batch_model.specs.Batch.{Change, AreRising, after_batch}
 use Rattle.history_model.specs.Changes.{deltas, delta_weight, weight}
 use Rattle.value_store.specs.Values.{ValueState, Keeps}
 use Rattle.mdb_core.specs.Alterations.{alterations}
-use Rattle.mdb_core.proofs.Altered.{altered-deltas, altered-heavy}
+use Rattle.mdb_core.proofs.AlteredKeys.{altered-deltas, altered-heavy}
 use Rattle.mdb_core.proofs.recording.read_deltas.Goals as goal
 
 pub returns-then-weight-limit-clause-deltas : goal.returns-then-weight-limit-clause-deltas

@@ -3,7 +3,7 @@ use Rattle.std.specs.Prelude.{MatchOption}
 use Rattle.history_model.specs.Changes.{deltas, weight}
 use Rattle.change_history.specs.Histories.{HistoryState, held_by, recalled, Remembers}
 use Rattle.change_history.specs.declared.delta.Delta.{Delta}
-use Rattle.change_history.proofs.Remembered.{remembers_pushed, remembers_restarted}
+use Rattle.change_history.proofs.ToldMaps.{remembers_pushed, remembers_restarted}
 use Rattle.mdb_core.proofs.recording.record_commit.Goals as goal
 
 pub returns-in-Some-clause-remembers : goal.returns-in-Some-clause-remembers

@@ -1,5 +1,5 @@
 use Rattle.std.proofs.Common.{arith, ◌-◌, length, drop, length-take, length-drop}
-use Rattle.mdb_journal.proofs.Rooms.{filled}
+use Rattle.mdb_journal.proofs.PayloadRooms.{filled}
 use Rattle.mdb_journal.proofs.append.fill.Goals as goal
 
 pub returns : goal.returns

@@ -1,7 +1,7 @@
 use Rattle.std.proofs.Common.{refl}
 use Rattle.disk_model.proofs.Meanwhile.{joined, weaker}
 use Rattle.disk_model.proofs.Telling.{contents_too}
-use Rattle.mdb_journal.proofs.Appending.{staging, staged_is, opening}
+use Rattle.mdb_journal.proofs.AppendCrashes.{staging, staged_is, opening}
 use Rattle.mdb_journal.proofs.append.write_record.Goals as goal
 
 pub returns-in_err-write_synced-clause-meanwhile : goal.returns-in_err-write_synced-clause-meanwhile

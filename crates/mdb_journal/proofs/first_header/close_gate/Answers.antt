@@ -4,7 +4,7 @@ use Rattle.disk_model.specs.Moments.{Moments, Meanwhile}
 use Rattle.disk_model.proofs.Meanwhile.{weaker}
 use Rattle.disk_model.proofs.Telling.{contents_too}
 use Rattle.store_model.specs.Header.{first_gate}
-use Rattle.mdb_journal.specs.Moves.{TornAlone}
+use Rattle.mdb_journal.specs.DiskMoves.{TornAlone}
 use Rattle.mdb_journal.specs.FirstHeader.{IsShut}
 use Rattle.mdb_journal.proofs.FirstHeaders.{while_closing, long_shut}
 use Rattle.mdb_journal.proofs.first_header.close_gate.Goals as goal

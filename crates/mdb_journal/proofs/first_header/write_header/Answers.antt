@@ -3,7 +3,7 @@ use Rattle.disk_model.specs.Crash.{at_rest}
 use Rattle.disk_model.proofs.Meanwhile.{joined, weaker}
 use Rattle.disk_model.proofs.Telling.{contents_too}
 use Rattle.store_model.specs.Header.{header_of}
-use Rattle.mdb_journal.proofs.Steps.{where_ok}
+use Rattle.mdb_journal.proofs.WriteAndSync.{where_ok}
 use Rattle.mdb_journal.proofs.FirstHeaders.{while_heading, headed, while_opening, opened_is}
 use Rattle.mdb_journal.proofs.first_header.write_header.Goals as goal
 

@@ -3,8 +3,8 @@ use Rattle.disk_model.specs.Files.{Files}
 use Rattle.store_model.specs.Header.{first_gate, is_width}
 use Rattle.bit_keys.specs.Branch.{width_of}
 use Rattle.mdb_journal.specs.Opening.{IsOpened}
-use Rattle.mdb_journal.specs.Walk.{Ends, Walked}
-use Rattle.mdb_journal.proofs.Finding.{answered, other_factor, width_known, header_inside, opened, refused}
+use Rattle.mdb_journal.specs.GateWalk.{Ends, Walked}
+use Rattle.mdb_journal.proofs.FoundFiles.{answered, other_factor, width_known, header_inside, opened, refused}
 use Rattle.mdb_journal.proofs.opening.find.Goals as goal
 
 pub returns-then-header-width-clause-refused : goal.returns-then-header-width-clause-refused

@@ -1,5 +1,5 @@
 use Rattle.disk_model.proofs.Meanwhile.{joined, weaker, one, one_or_none}
-use Rattle.mdb_journal.proofs.Steps.{sync_only, whatever_answered}
+use Rattle.mdb_journal.proofs.WriteAndSync.{sync_only, whatever_answered}
 use Rattle.mdb_journal.proofs.opening.sync_both.Goals as goal
 
 pub returns-clause-meanwhile : goal.returns-clause-meanwhile

@@ -1,6 +1,6 @@
 use Rattle.std.proofs.Common.{◌+◌, get_or, refl, sym, ap, ◌∙◌, arith, rules, subst}
 use Rattle.std.specs.Int.{w32, from_be_bytes}
-use Rattle.mdb_journal.specs.Walk.{IsFound}
+use Rattle.mdb_journal.specs.GateWalk.{IsFound}
 use Rattle.mdb_journal.proofs.RecordFields.{too_short, unknown_read, long_read, found_read, head_read, gate_read, piece_read}
 use Rattle.mdb_journal.proofs.record.read_record.Goals as goal
 

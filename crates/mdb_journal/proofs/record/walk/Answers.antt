@@ -1,8 +1,8 @@
 use Rattle.std.proofs.Common.{length, sym, ap, ◌∙◌, subst, arith}
 use Rattle.store_model.specs.Refusals.{IsOpen}
 use Rattle.disk_model.specs.Files.{Files}
-use Rattle.mdb_journal.specs.Walk.{IsFound}
-use Rattle.mdb_journal.proofs.Walking.{one_more, at_end}
+use Rattle.mdb_journal.specs.GateWalk.{IsFound}
+use Rattle.mdb_journal.proofs.GateSteps.{one_more, at_end}
 use Rattle.mdb_journal.proofs.record.walk.Goals as goal
 
 pub gates-preserved : goal.gates-preserved

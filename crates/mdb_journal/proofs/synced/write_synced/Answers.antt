@@ -1,6 +1,6 @@
 use Rattle.std.proofs.Common.{inr, ◌+◌, length}
 use Rattle.disk_model.proofs.Meanwhile.{joined}
-use Rattle.mdb_journal.proofs.Steps.{whatever_answered, write_step, sync_step}
+use Rattle.mdb_journal.proofs.WriteAndSync.{whatever_answered, write_step, sync_step}
 use Rattle.mdb_journal.proofs.synced.write_synced.Goals as goal
 
 pub returns-in_err-write_at-clause-meanwhile : goal.returns-in_err-write_at-clause-meanwhile

@@ -1,8 +1,8 @@
 use Rattle.std.proofs.Common.{refl}
 use Rattle.bit_keys.specs.Branch.{width_of}
-use Rattle.run_model.specs.Outside.{outside, disk_seen}
+use Rattle.run_model.specs.OutsideThings.{outside, disk_seen}
 use Rattle.store_opening.specs.Opening.{end_of_fault}
-use Rattle.run_model.proofs.Telling.{took_nothing}
+use Rattle.run_model.proofs.ToldThings.{took_nothing}
 use Rattle.mdb_tool.proofs.ApplyEnds.{Scripted, apply_failed, script_done}
 use Rattle.mdb_tool.proofs.apply_command.run_apply.Goals as goal
 

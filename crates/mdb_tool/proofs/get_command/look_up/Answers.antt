@@ -1,11 +1,11 @@
 use Rattle.std.proofs.Common.{Err, ap, ◌∙◌}
 use Rattle.std.specs.Prelude.{option_map}
 use Rattle.bit_keys.specs.Branch.{width_of}
-use Rattle.run_model.specs.Outside.{disk_seen}
+use Rattle.run_model.specs.OutsideThings.{disk_seen}
 use Rattle.mdb_core.specs.Stores.{DbState, is_failed}
 use Rattle.mdb_core.specs.declared.fault.DbFault.{DbFault}
 use Rattle.store_opening.proofs.Openings.{look_up_fails, store_fails, untouched_keeps}
-use Rattle.mdb_tool.specs.Finding.{IsValueAt}
+use Rattle.mdb_tool.specs.MapReads.{IsValueAt}
 use Rattle.mdb_tool.proofs.ReadEnds.{found_in}
 use Rattle.mdb_tool.proofs.get_command.look_up.Goals as goal
 

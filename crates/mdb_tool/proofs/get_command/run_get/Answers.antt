@@ -2,9 +2,9 @@ use Rattle.std.proofs.Common.{false, refl, ◌∙◌}
 use Rattle.std.specs.Prelude.{option_map}
 use Rattle.bit_keys.specs.Branch.{width_of}
 use Rattle.run_model.specs.Get.{get_outcome}
-use Rattle.run_model.specs.Outside.{outside, disk_seen}
+use Rattle.run_model.specs.OutsideThings.{outside, disk_seen}
 use Rattle.mdb_tool.specs.Ends.{end_of}
-use Rattle.run_model.proofs.Telling.{took_nothing}
+use Rattle.run_model.proofs.ToldThings.{took_nothing}
 use Rattle.mdb_tool.proofs.ReadEnds.{get_shared, read_failed, read_printed, read_part, line_of_value}
 use Rattle.mdb_tool.proofs.get_command.run_get.Goals as goal
 

@@ -1,7 +1,7 @@
 use Rattle.std.proofs.Common.{◌∙◌, subst}
 use Rattle.std.specs.Prelude.{map, string_bytes}
 use Rattle.std.specs.Process.{exit_status}
-use Rattle.run_model.specs.Outside.{output_seen}
+use Rattle.run_model.specs.OutsideThings.{output_seen}
 use Rattle.mdb_tool.specs.declared.hints.Hint.{Hint}
 use Rattle.mdb_tool.specs.declared.hints.TheConstants.{GREETING}
 use Rattle.mdb_tool.specs.Ends.{end_of}

@@ -1,5 +1,5 @@
 use Rattle.std.specs.Prelude.{map, string_bytes}
-use Rattle.run_model.specs.Outside.{outside, disk_seen}
+use Rattle.run_model.specs.OutsideThings.{outside, disk_seen}
 use Rattle.mdb_tool.specs.Ends.{end_of}
 use Rattle.mdb_tool.specs.ReadJob.{seen_job}
 use Rattle.mdb_tool.proofs.RunParts.{words_complete, words_store, own_part, root_part, apply_part, get_part, prove_part, range_part, changes_part, verify_part}

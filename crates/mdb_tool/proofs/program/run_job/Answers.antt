@@ -1,7 +1,7 @@
 use Rattle.std.proofs.Common.{ℕ, List, sym, subst}
 use Rattle.bit_keys.specs.Branch.{width_of}
 use Rattle.run_model.specs.Command.{Get, Prove}
-use Rattle.run_model.specs.Outside.{outside, disk_seen}
+use Rattle.run_model.specs.OutsideThings.{outside, disk_seen}
 use Rattle.run_model.specs.Get.{GetRuns}
 use Rattle.run_model.specs.Prove.{ProveRuns}
 use Rattle.batch_text.specs.SeenLine.{seen_root}

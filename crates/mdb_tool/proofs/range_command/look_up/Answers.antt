@@ -4,14 +4,14 @@ use Rattle.bit_keys.specs.Branch.{width_of}
 use Rattle.range_model.specs.Ranges.{Range}
 use Rattle.batch_text.specs.SeenLine.{seen_root}
 use Rattle.text_model.specs.Texts.{range_text}
-use Rattle.session_model.specs.Named.{holds_first, range_proved}
-use Rattle.run_model.specs.Outside.{disk_seen}
+use Rattle.session_model.specs.MapsByRoot.{holds_first, range_proved}
+use Rattle.run_model.specs.OutsideThings.{disk_seen}
 use Rattle.run_model.specs.Range.{range_outcome}
 use Rattle.trie_model.specs.Maps.{Map}
 use Rattle.mdb_core.specs.Stores.{DbState, held_maps, is_failed}
 use Rattle.store_opening.proofs.Openings.{open_stands, untouched_keeps, first_held}
 use Rattle.mdb_tool.proofs.FailedReads.{reading_fails}
-use Rattle.mdb_tool.specs.Finding.{IsLineOf}
+use Rattle.mdb_tool.specs.MapReads.{IsLineOf}
 use Rattle.mdb_tool.proofs.ReadEnds.{found_in, line_of_range}
 use Rattle.mdb_tool.proofs.range_command.look_up.Goals as goal
 

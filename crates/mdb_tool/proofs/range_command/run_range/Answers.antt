@@ -4,11 +4,11 @@ use Rattle.std.specs.Global.{Global}
 use Rattle.batch_text.specs.SeenLine.{seen_root}
 use Rattle.bit_keys.specs.Branch.{width_of}
 use Rattle.run_model.specs.Range.{range_outcome}
-use Rattle.run_model.specs.Outside.{outside, disk_seen}
+use Rattle.run_model.specs.OutsideThings.{outside, disk_seen}
 use Rattle.run_model.specs.End.{Done, NotHeld, Write}
 use Rattle.mdb_tool.specs.Ends.{end_of}
-use Rattle.mdb_tool.specs.Finding.{Finds, IsLineOf}
-use Rattle.run_model.proofs.Telling.{took_nothing}
+use Rattle.mdb_tool.specs.MapReads.{Finds, IsLineOf}
+use Rattle.run_model.proofs.ToldThings.{took_nothing}
 use Rattle.mdb_tool.proofs.ReadEnds.{ReadPromises, range_shared, read_failed, read_printed, read_not_held, read_part}
 use Rattle.mdb_tool.proofs.range_command.run_range.Goals as goal
 

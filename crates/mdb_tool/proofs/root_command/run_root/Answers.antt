@@ -1,8 +1,8 @@
 use Rattle.std.proofs.Common.{Err, ap, refl, ◌∙◌}
 use Rattle.bit_keys.specs.Branch.{width_of}
-use Rattle.run_model.specs.Outside.{outside}
+use Rattle.run_model.specs.OutsideThings.{outside}
 use Rattle.mdb_tool.specs.declared.map_lines.MapFault.{MapFault}
-use Rattle.run_model.proofs.Telling.{took_nothing}
+use Rattle.run_model.proofs.ToldThings.{took_nothing}
 use Rattle.mdb_tool.proofs.RootEnds.{Found, stopped, found, printed_all, printed_part}
 use Rattle.mdb_tool.proofs.root_command.run_root.Goals as goal
 

@@ -4,7 +4,7 @@ use Rattle.std.proofs.lemmas.List.{map_push}
 use Rattle.bit_keys.specs.Branch.{width_of}
 use Rattle.trie_model.specs.Maps.{limits}
 use Rattle.trie_model.specs.StoredNode.{children_at}
-use Rattle.node_codec.specs.Stored.{stored_child, stored_children}
+use Rattle.node_codec.specs.StoredNodes.{stored_child, stored_children}
 use Rattle.node_codec.proofs.Children.{goes_on, ends, is_done}
 use Rattle.node_codec.proofs.reading.children_of.Goals as goal
 

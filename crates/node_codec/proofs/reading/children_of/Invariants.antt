@@ -2,7 +2,7 @@ use Rattle.std.proofs.Common.{◌≡◌, ◌-◌, ◌≤◌, length}
 use Rattle.bit_keys.specs.Branch.{width_of}
 use Rattle.trie_model.specs.Maps.{limits}
 use Rattle.trie_model.specs.StoredNode.{children_at}
-use Rattle.node_codec.specs.Stored.{stored_children}
+use Rattle.node_codec.specs.StoredNodes.{stored_children}
 use Rattle.node_codec.proofs.Children.{with_front}
 use Rattle.node_codec.proofs.reading.children_of.Given as goal
 

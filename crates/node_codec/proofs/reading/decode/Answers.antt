@@ -1,5 +1,5 @@
 use Rattle.std.proofs.Common.{arith}
-use Rattle.node_codec.proofs.Whole.{is_found, is_given}
+use Rattle.node_codec.proofs.WholeNodes.{is_found, is_given}
 use Rattle.node_codec.proofs.reading.decode.Goals as goal
 
 pub returns-clause-found : goal.returns-clause-found

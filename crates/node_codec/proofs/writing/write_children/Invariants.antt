@@ -2,7 +2,7 @@ use Rattle.std.proofs.Common.{◌≡◌, ◌++◌, drop}
 use Rattle.std.specs.List.{flat_map}
 use Rattle.trie_model.specs.StoredNode.{stored_child_form}
 use Rattle.base_model.specs.Bytes.{Grown}
-use Rattle.node_codec.specs.Stored.{stored_children}
+use Rattle.node_codec.specs.StoredNodes.{stored_children}
 use Rattle.node_codec.proofs.writing.write_children.Given as goal
 
 -- what is written, and what is left to write, are what was there and all children

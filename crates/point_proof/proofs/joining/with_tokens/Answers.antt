@@ -2,7 +2,7 @@ use Rattle.std.proofs.Common.{◌≡◌, ◌+◌, ◌*◌, ◌<◌, arith, ◌�
 use Rattle.trie_model.specs.Bits.{bits_of}
 use Rattle.bit_keys.specs.Branch.{width_of, factor_of}
 use Rattle.point_proof.proofs.JoinedKeys.{token_more, token_end}
-use Rattle.point_proof.proofs.Widths.{token_small}
+use Rattle.point_proof.proofs.TokenWidths.{token_small}
 use Rattle.point_proof.proofs.joining.with_tokens.Goals as goal
 
 pub slot-requires : goal.slot-requires

@@ -3,7 +3,7 @@ use Rattle.bit_keys.specs.Branch.{width_of}
 use Rattle.proof_model.specs.Claims.{pair_of as pairs_of}
 use Rattle.proof_model.specs.Proofs.{PointProof}
 use Rattle.proof_check.specs.Claims.{pair_of}
-use Rattle.point_proof.proofs.Verified.{claim_is, told_of_point, cost_of_point}
+use Rattle.point_proof.proofs.AcceptedProofs.{claim_is, told_of_point, cost_of_point}
 use Rattle.point_proof.proofs.verifying.check_point.Goals as goal
 
 pub returns-clause-refusal : goal.returns-clause-refusal

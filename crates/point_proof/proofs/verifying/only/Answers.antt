@@ -1,5 +1,5 @@
 use Rattle.std.proofs.Common.{arith}
-use Rattle.point_proof.proofs.Verified.{only-IsRange, is_there}
+use Rattle.point_proof.proofs.AcceptedProofs.{only-IsRange, is_there}
 use Rattle.point_proof.proofs.verifying.only.Goals as goal
 
 pub unwrap-requires : goal.unwrap-requires

@@ -1,7 +1,7 @@
 use Rattle.std.proofs.Common.{arith}
 use Rattle.bit_keys.specs.Branch.{width_of}
-use Rattle.point_proof.proofs.Verified.{accepted_is_true, true_is_accepted}
-use Rattle.proof_check.proofs.Whole.{width_of-IsWidth}
+use Rattle.point_proof.proofs.AcceptedProofs.{accepted_is_true, true_is_accepted}
+use Rattle.proof_check.proofs.WholePoints.{width_of-IsWidth}
 use Rattle.point_proof.proofs.verifying.verify.Goals as goal
 
 pub returns-clause-sound : goal.returns-clause-sound

@@ -1,6 +1,6 @@
 use Rattle.std.proofs.Common.{◌≡◌, drop}
-use Rattle.node_codec.specs.Stored.{stored_children}
-use Rattle.point_proof.specs.Ways.{child_at}
+use Rattle.node_codec.specs.StoredNodes.{stored_children}
+use Rattle.point_proof.specs.WaysDown.{child_at}
 use Rattle.point_proof.proofs.walking.key_of_child.Given as goal
 
 abbrev pub invariant-loop-child : goal.invariant-loop-child

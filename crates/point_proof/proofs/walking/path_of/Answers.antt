@@ -6,8 +6,8 @@ use Rattle.trie_model.specs.Maps.{Map}
 use Rattle.trie_model.specs.Table.{table}
 use Rattle.bit_keys.specs.Branch.{width_of}
 use Rattle.proof_model.specs.Paths.{ProofNode, path}
-use Rattle.proof_check.proofs.Whole.{width_of-IsWidth}
-use Rattle.point_proof.specs.Ways.{whole_way}
+use Rattle.proof_check.proofs.WholePoints.{width_of-IsWidth}
+use Rattle.point_proof.specs.WaysDown.{whole_way}
 use Rattle.point_proof.proofs.WalkedNodes.{way-path}
 use Rattle.point_proof.proofs.walking.path_of.Goals as goal
 

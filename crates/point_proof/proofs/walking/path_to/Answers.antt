@@ -1,9 +1,9 @@
 use Rattle.std.proofs.Common.{ap, ◌∙◌, [], ◌∷◌, ◌++◌}
 use Rattle.bit_keys.specs.Branch.{width_of}
 use Rattle.proof_model.specs.Paths.{ProofNode}
-use Rattle.point_proof.proofs.Ways.{starts, steps, further, ends_at_gap, ends_below}
-use Rattle.point_proof.proofs.Calls.{nothing_called, then_well, lacks_memory}
-use Rattle.point_proof.proofs.Widths.{width_pos}
+use Rattle.point_proof.proofs.WaysDown.{starts, steps, further, ends_at_gap, ends_below}
+use Rattle.point_proof.proofs.SourceCalls.{nothing_called, then_well, lacks_memory}
+use Rattle.point_proof.proofs.TokenWidths.{width_pos}
 use Rattle.point_proof.proofs.walking.path_to.Goals as goal
 use Rattle.point_proof.proofs.walking.path_to.Goals.{in-Some+in_ok-node+in_default-2, in_default}
 

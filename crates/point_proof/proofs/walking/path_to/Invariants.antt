@@ -1,7 +1,7 @@
 use Rattle.trie_model.specs.Maps.{Map}
 use Rattle.bit_keys.specs.Branch.{width_of}
-use Rattle.point_proof.proofs.Calls.{WentWell}
-use Rattle.point_proof.proofs.Ways.{ahead, OnWay}
+use Rattle.point_proof.proofs.SourceCalls.{WentWell}
+use Rattle.point_proof.proofs.WaysDown.{ahead, OnWay}
 use Rattle.point_proof.proofs.walking.path_to.Given as goal
 
 abbrev pub invariant-loop-next : goal.invariant-loop-next

@@ -1,4 +1,4 @@
-use Rattle.proof_check.proofs.ToldBeside.{leads_to-append, shown_first, shown_second}
+use Rattle.proof_check.proofs.ItemsBeside.{leads_to-append, shown_first, shown_second}
 use Rattle.proof_check.proofs.beside.is_shown.Goals as goal
 
 pub returns-then-leads_to : goal.returns-then-leads_to

@@ -1,7 +1,7 @@
 use Rattle.std.proofs.Common.{ap, ◌∙◌}
 use Rattle.trie_model.specs.Bits.{is_prefix}
 use Rattle.proof_model.specs.Paths.{ProofNode}
-use Rattle.proof_check.proofs.ToldBeside.{last_leads}
+use Rattle.proof_check.proofs.ItemsBeside.{last_leads}
 use Rattle.proof_check.proofs.beside.leads_to.Goals as goal
 
 pub returns-in-Some : goal.returns-in-Some

@@ -1,4 +1,4 @@
-use Rattle.proof_check.proofs.ToldBeside.{index_small}
+use Rattle.proof_check.proofs.ItemsBeside.{index_small}
 use Rattle.proof_check.proofs.beside.push_stubs.Goals as goal
 
 pub stub_beside-requires-clause-index : goal.stub_beside-requires-clause-index

@@ -3,7 +3,7 @@ use Rattle.bit_keys.specs.Branch.{width_of}
 use Rattle.trie_items.specs.Items.{item_of}
 use Rattle.proof_check.specs.Claims.{claim_of}
 use Rattle.proof_check.specs.Descents.{told_down, told_up}
-use Rattle.proof_check.proofs.ToldBeside.{width_positive}
+use Rattle.proof_check.proofs.ItemsBeside.{width_positive}
 use Rattle.proof_check.proofs.Descents.{descent}
 use Rattle.proof_check.proofs.beside.told_beside.Goals as goal
 

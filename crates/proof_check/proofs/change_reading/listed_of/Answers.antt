@@ -3,8 +3,8 @@ use Rattle.std.proofs.lemmas.Result.{err_from_is_err_and}
 use Rattle.trie_model.specs.Maps.{limits}
 use Rattle.proof_model.specs.Wire.{listed_at}
 use Rattle.proof_model.specs.ChangeWire.{change_at}
-use Rattle.proof_check.proofs.Lists.{goes_on, ends, is_done}
-use Rattle.proof_check.proofs.Steps.{more_listed, no_listed}
+use Rattle.proof_check.proofs.ListFields.{goes_on, ends, is_done}
+use Rattle.proof_check.proofs.ListSteps.{more_listed, no_listed}
 use Rattle.proof_check.proofs.change_reading.listed_of.Goals as goal
 
 pub returns-in_err-change-clause-exact : goal.returns-in_err-change-clause-exact

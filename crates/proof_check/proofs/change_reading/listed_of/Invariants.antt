@@ -2,7 +2,7 @@ use Rattle.std.proofs.Common.{◌≡◌, ◌-◌, ◌≤◌, length}
 use Rattle.trie_model.specs.Maps.{limits}
 use Rattle.proof_model.specs.Wire.{listed_at}
 use Rattle.proof_model.specs.ChangeWire.{change_at}
-use Rattle.proof_check.proofs.Lists.{with_front}
+use Rattle.proof_check.proofs.ListFields.{with_front}
 use Rattle.proof_check.proofs.change_reading.listed_of.Given as goal
 
 -- what was read and what is still read are all changes

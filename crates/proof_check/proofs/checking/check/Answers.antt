@@ -2,7 +2,7 @@ use Rattle.std.proofs.Common.{ap, ◌∙◌}
 use Rattle.std.proofs.lemmas.Result.{err_from_is_err_and}
 use Rattle.bit_keys.specs.Branch.{width_of}
 use Rattle.trie_model.specs.Ids.{id}
-use Rattle.proof_check.proofs.Telling.{entries_told, paths_told, root_told, is_claim, paths_cost}
+use Rattle.proof_check.proofs.FirstReasons.{entries_told, paths_told, root_told, is_claim, paths_cost}
 use Rattle.proof_check.proofs.checking.check.Goals as goal
 
 pub returns-in_err-check_entries-clause-told : goal.returns-in_err-check_entries-clause-told

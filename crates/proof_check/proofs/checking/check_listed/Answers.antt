@@ -1,5 +1,5 @@
 use Rattle.std.proofs.lemmas.Result.{err_from_is_err_and}
-use Rattle.proof_check.proofs.Telling.{listed_first, listed_next}
+use Rattle.proof_check.proofs.FirstReasons.{listed_first, listed_next}
 use Rattle.proof_check.proofs.checking.check_listed.Goals as goal
 
 pub returns-in_err-check_entries : goal.returns-in_err-check_entries

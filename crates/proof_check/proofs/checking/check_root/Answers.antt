@@ -1,4 +1,4 @@
-use Rattle.proof_check.proofs.Telling.{root_differs, root_same}
+use Rattle.proof_check.proofs.FirstReasons.{root_differs, root_same}
 use Rattle.proof_check.proofs.checking.check_root.Goals as goal
 
 pub returns-then-ne-clause-told : goal.returns-then-ne-clause-told

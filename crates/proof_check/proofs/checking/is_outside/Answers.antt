@@ -1,5 +1,5 @@
 use Rattle.std.proofs.Common.{arith}
-use Rattle.proof_check.proofs.Whole.{bytes_are}
+use Rattle.proof_check.proofs.WholePoints.{bytes_are}
 use Rattle.proof_check.proofs.checking.is_outside.Goals as goal
 
 pub returns-clause-bytes : goal.returns-clause-bytes

@@ -2,7 +2,7 @@ use Rattle.std.proofs.Common.{◌≡◌, ◌+◌, ◌-◌, ◌≤◌, drop, map}
 use Rattle.std.specs.List.{prefix_len}
 use Rattle.std.specs.VecDeque.{deque_len}
 use Rattle.trie_items.specs.Items.{item_of}
-use Rattle.proof_check.specs.Fronts.{is_before}
+use Rattle.proof_check.specs.ItemFronts.{is_before}
 use Rattle.proof_check.proofs.items.count_before.Given as goal
 
 abbrev pub invariant-loop-count : goal.invariant-loop-count

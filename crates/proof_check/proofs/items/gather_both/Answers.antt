@@ -4,10 +4,10 @@ use Rattle.bit_keys.specs.Branch.{width_of}
 use Rattle.trie_items.specs.Items.{item_of}
 use Rattle.proof_check.specs.Claims.{claim_of, pair_of, told_of}
 use Rattle.std.proofs.lemmas.Result.{IfOk-weaker}
-use Rattle.proof_check.proofs.ToldBeside.{rises_made}
+use Rattle.proof_check.proofs.ItemsBeside.{rises_made}
 use Rattle.proof_check.proofs.Descents.{start_path, end_path}
-use Rattle.proof_check.proofs.Gathered.{gathered}
-use Rattle.proof_check.proofs.Among.{none_listed, some_listed, beside_out}
+use Rattle.proof_check.proofs.ClaimItems.{gathered}
+use Rattle.proof_check.proofs.ItemsInRange.{none_listed, some_listed, beside_out}
 use Rattle.proof_check.proofs.items.gather_both.Goals as goal
 
 pub told_beside-requires-clause-path : goal.told_beside-requires-clause-path

@@ -4,7 +4,7 @@ use Rattle.std.proofs.lemmas.Option.{IfSome_then}
 use Rattle.bit_keys.specs.Branch.{width_of}
 use Rattle.trie_items.specs.Items.{item_of}
 use Rattle.proof_check.specs.Claims.{claim_of}
-use Rattle.proof_check.proofs.Between.{one_path}
+use Rattle.proof_check.proofs.EntriesBetween.{one_path}
 use Rattle.proof_check.proofs.Descents.{start_path}
 use Rattle.proof_check.proofs.items.gather_one.Goals as goal
 

@@ -1,8 +1,8 @@
 use Rattle.std.proofs.Common.{map, ap, ◌∙◌}
 use Rattle.trie_items.specs.Items.{item_of}
 use Rattle.proof_check.specs.Claims.{claim_of}
-use Rattle.proof_check.proofs.Gathered.{claim_valid}
-use Rattle.proof_check.proofs.Telling.{paths_unbroken}
+use Rattle.proof_check.proofs.ClaimItems.{claim_valid}
+use Rattle.proof_check.proofs.FirstReasons.{paths_unbroken}
 use Rattle.proof_check.proofs.items.items_of.Goals as goal
 
 pub gather-requires-clause-unbroken : goal.gather-requires-clause-unbroken

@@ -5,8 +5,8 @@ use Rattle.bit_keys.specs.Branch.{width_of}
 use Rattle.trie_items.specs.Items.{item_of}
 use Rattle.proof_check.specs.Claims.{claim_of, pair_of}
 use Rattle.proof_check.specs.Descents.{told_down, told_up}
-use Rattle.proof_check.specs.Fronts.{is_before, begins_before}
-use Rattle.proof_check.proofs.Between.{between}
+use Rattle.proof_check.specs.ItemFronts.{is_before, begins_before}
+use Rattle.proof_check.proofs.EntriesBetween.{between}
 use Rattle.proof_check.proofs.items.put_between.Goals as goal
 
 pub returns : goal.returns

@@ -2,8 +2,8 @@ use Rattle.std.proofs.Common.{◌-◌, ◌++◌, map, take, drop, ap, ◌∙◌}
 use Rattle.trie_model.specs.Maps.{entry_item}
 use Rattle.trie_items.specs.Items.{item_of}
 use Rattle.proof_check.specs.Claims.{pair_of}
-use Rattle.proof_check.specs.Fronts.{put_before}
-use Rattle.proof_check.proofs.Among.{turned_twice}
+use Rattle.proof_check.specs.ItemFronts.{put_before}
+use Rattle.proof_check.proofs.ItemsInRange.{turned_twice}
 use Rattle.proof_check.proofs.items.put_in.Goals as goal
 
 pub returns : goal.returns

@@ -1,5 +1,5 @@
 use Rattle.std.proofs.Common.{sym, ◌∙◌}
-use Rattle.proof_check.proofs.Fronts.{is_none, none_left, none_right}
+use Rattle.proof_check.proofs.ItemFronts.{is_none, none_left, none_right}
 use Rattle.proof_check.proofs.merging.merge.Goals as goal
 
 pub returns-then-is_empty : goal.returns-then-is_empty

@@ -1,7 +1,7 @@
 use Rattle.std.proofs.Common.{◌≡◌, ◌+◌, ◌++◌, map}
 use Rattle.std.specs.VecDeque.{deque_len}
 use Rattle.trie_items.specs.Items.{item_of}
-use Rattle.proof_check.proofs.Fronts.{Rises, both}
+use Rattle.proof_check.proofs.ItemFronts.{Rises, both}
 use Rattle.proof_check.proofs.merging.merge.Given as goal
 
 abbrev pub invariant-loop-item : goal.invariant-loop-item

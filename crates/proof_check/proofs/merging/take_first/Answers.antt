@@ -1,5 +1,5 @@
 use Rattle.std.proofs.Common.{sym, subst}
-use Rattle.proof_check.proofs.Fronts.{left_taken, right_taken, both_taken, Takes, both}
+use Rattle.proof_check.proofs.ItemFronts.{left_taken, right_taken, both_taken, TakesFirst, both}
 use Rattle.proof_check.proofs.merging.take_first.Goals as goal
 
 pub returns-in-Less-clause-taken : goal.returns-in-Less-clause-taken
@@ -10,5 +10,5 @@ returns-in-Greater-clause-taken c = right_taken _ c.args.left.now.items _ _ c.po
 
 pub returns-in-Equal-clause-taken : goal.returns-in-Equal-clause-taken
 returns-in-Equal-clause-taken c =
-    subst (λ rs. Takes c.pop_front-in-Equal.result (both c.args.left.now.items c.args.right.now.items) (both c.pop_front-in-Equal.new.self.items rs)) (sym c.drop_first.ensures.items)
+    subst (λ rs. TakesFirst c.pop_front-in-Equal.result (both c.args.left.now.items c.args.right.now.items) (both c.pop_front-in-Equal.new.self.items rs)) (sym c.drop_first.ensures.items)
     (both_taken _ _ _ c.args.right.now.items c.pop_front-in-Equal.ensures.items c.pop_front-in-Equal.ensures.rest (sym c.in-Equal.ensures) c.requires.left c.requires.right)

@@ -4,9 +4,9 @@ use Rattle.std.proofs.lemmas.List.{map_push}
 use Rattle.bit_keys.specs.Branch.{width_of}
 use Rattle.trie_items.specs.Children.{children_of}
 use Rattle.proof_model.specs.Wire.{children_at}
-use Rattle.proof_check.specs.Read.{child_at}
-use Rattle.proof_check.proofs.Lists.{goes_on, ends, is_done}
-use Rattle.proof_check.proofs.Steps.{more_children, no_children}
+use Rattle.proof_check.specs.ReaderAnswers.{child_at}
+use Rattle.proof_check.proofs.ListFields.{goes_on, ends, is_done}
+use Rattle.proof_check.proofs.ListSteps.{more_children, no_children}
 use Rattle.proof_check.proofs.path_reading.children_of.Goals as goal
 
 pub returns-in_err-child-clause-exact : goal.returns-in_err-child-clause-exact

@@ -2,7 +2,7 @@ use Rattle.std.proofs.Common.{◌≡◌, ◌-◌, ◌≤◌, length}
 use Rattle.bit_keys.specs.Branch.{width_of}
 use Rattle.trie_items.specs.Children.{children_of}
 use Rattle.proof_model.specs.Wire.{children_at}
-use Rattle.proof_check.proofs.Lists.{with_front}
+use Rattle.proof_check.proofs.ListFields.{with_front}
 use Rattle.proof_check.proofs.path_reading.children_of.Given as goal
 
 -- what was read and what is still read are all children

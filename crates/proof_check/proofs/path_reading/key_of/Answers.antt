@@ -3,7 +3,7 @@ use Rattle.base_model.specs.Fields.{bytes_at}
 use Rattle.proof_model.specs.Wire.{Short, Padding, wrong}
 use Rattle.trie_model.specs.Bits.{bits_of_bytes}
 use Rattle.bit_keys.specs.Keys.{IsFilledUp}
-use Rattle.node_codec.proofs.Rests.{bytes_needed, bits_found, bits_dirty}
+use Rattle.node_codec.proofs.RestBits.{bytes_needed, bits_found, bits_dirty}
 use Rattle.proof_check.proofs.path_reading.key_of.Goals as goal
 
 pub returns-in-Some-clause-exact : goal.returns-in-Some-clause-exact

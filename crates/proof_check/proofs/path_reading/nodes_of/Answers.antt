@@ -3,8 +3,8 @@ use Rattle.std.proofs.lemmas.Result.{err_from_is_err_and}
 use Rattle.bit_keys.specs.Branch.{width_of}
 use Rattle.trie_model.specs.Maps.{limits}
 use Rattle.proof_model.specs.Wire.{node_at, nodes_at}
-use Rattle.proof_check.proofs.Lists.{goes_on, ends, is_done}
-use Rattle.proof_check.proofs.Steps.{more_nodes, no_nodes}
+use Rattle.proof_check.proofs.ListFields.{goes_on, ends, is_done}
+use Rattle.proof_check.proofs.ListSteps.{more_nodes, no_nodes}
 use Rattle.proof_check.proofs.path_reading.nodes_of.Goals as goal
 
 pub returns-in_err-node-clause-exact : goal.returns-in_err-node-clause-exact

@@ -2,7 +2,7 @@ use Rattle.std.proofs.Common.{◌≡◌, ◌-◌, ◌≤◌, length}
 use Rattle.bit_keys.specs.Branch.{width_of}
 use Rattle.trie_model.specs.Maps.{limits}
 use Rattle.proof_model.specs.Wire.{nodes_at}
-use Rattle.proof_check.proofs.Lists.{with_front}
+use Rattle.proof_check.proofs.ListFields.{with_front}
 use Rattle.proof_check.proofs.path_reading.nodes_of.Given as goal
 
 -- what was read and what is still read are all nodes

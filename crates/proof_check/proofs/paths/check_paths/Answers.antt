@@ -1,6 +1,6 @@
 use Rattle.std.proofs.Common.{sym, subst, refl}
-use Rattle.proof_check.specs.Told.{Tells}
-use Rattle.proof_check.proofs.Telling.{order_told, difference_told}
+use Rattle.proof_check.specs.CheckResults.{Tells}
+use Rattle.proof_check.proofs.FirstReasons.{order_told, difference_told}
 use Rattle.proof_check.proofs.paths.check_paths.Goals as goal
 
 pub returns-in-Some : goal.returns-in-Some

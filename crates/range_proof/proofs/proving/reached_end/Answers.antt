@@ -1,7 +1,7 @@
 use Rattle.std.proofs.Common.{ap, ◌∙◌, refl}
 use Rattle.std.specs.Option.{option_copied}
 use Rattle.proof_model.specs.Proofs.{Pair}
-use Rattle.range_proof.proofs.Reached.{last_is, reached_end-cut}
+use Rattle.range_proof.proofs.CheckedRange.{last_is, reached_end-cut}
 use Rattle.range_proof.proofs.proving.reached_end.Goals as goal
 
 pub returns-in-Some : goal.returns-in-Some

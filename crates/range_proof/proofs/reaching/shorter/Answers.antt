@@ -3,8 +3,8 @@ use Rattle.std.specs.Option.{option_copied}
 use Rattle.range_model.specs.Ranges.{holds}
 use Rattle.proof_model.specs.Proofs.{Pair}
 use Rattle.proof_model.specs.RangeProofs.{RangeProof}
-use Rattle.proof_model.specs.Takings.{end_or}
-use Rattle.range_proof.proofs.Reached.{last_is, reached_range-cut}
+use Rattle.proof_model.specs.TakenEntries.{end_or}
+use Rattle.range_proof.proofs.CheckedRange.{last_is, reached_range-cut}
 use Rattle.range_proof.proofs.reaching.shorter.Goals as goal
 
 pub returns-then-not-holds : goal.returns-then-not-holds

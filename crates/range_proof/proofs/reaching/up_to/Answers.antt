@@ -1,8 +1,8 @@
 use Rattle.std.proofs.Common.{arith, ◌∙◌}
 use Rattle.std.specs.Prelude.{option_map}
 use Rattle.bit_keys.proofs.Bounds.{are_bytes}
-use Rattle.point_proof.proofs.Verified.{is_there}
-use Rattle.range_proof.proofs.Reached.{up_to-bounds}
+use Rattle.point_proof.proofs.AcceptedProofs.{is_there}
+use Rattle.range_proof.proofs.CheckedRange.{up_to-bounds}
 use Rattle.range_proof.proofs.reaching.up_to.Goals as goal
 
 pub unwrap-requires : goal.unwrap-requires

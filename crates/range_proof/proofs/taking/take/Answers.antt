@@ -3,9 +3,9 @@ use Rattle.std.specs.Prelude.{Vec, option_map}
 use Rattle.std.specs.FinMap.{get}
 use Rattle.std.specs.declared.alloc.Global.{Global}
 use Rattle.trie_items.specs.Sources.{next_key}
-use Rattle.point_proof.proofs.Calls.{nothing_called, then_well, lacks_memory}
-use Rattle.range_proof.specs.Taking.{in_range}
-use Rattle.range_proof.proofs.Taken.{starts, ends, ends_full, never_none, ends_behind, steps_to, never_empty, tested, sized}
+use Rattle.point_proof.proofs.SourceCalls.{nothing_called, then_well, lacks_memory}
+use Rattle.range_proof.specs.TakenKeys.{in_range}
+use Rattle.range_proof.proofs.TakenPairs.{starts, ends, ends_full, never_none, ends_behind, steps_to, never_empty, tested, sized}
 use Rattle.range_proof.proofs.taking.take.Goals as goal
 
 abbrev bytes_of : Option (Vec ℕ Global) → Option (List ℕ)

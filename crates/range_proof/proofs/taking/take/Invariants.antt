@@ -2,8 +2,8 @@ use Rattle.std.proofs.Common.{◌≡◌, ◌-◌, [], length}
 use Rattle.std.specs.Prelude.{option_map}
 use Rattle.trie_model.specs.Maps.{Map}
 use Rattle.proof_model.specs.RangeProofs.{pairs_in}
-use Rattle.point_proof.proofs.Calls.{WentWell}
-use Rattle.range_proof.proofs.Taken.{OnTaking}
+use Rattle.point_proof.proofs.SourceCalls.{WentWell}
+use Rattle.range_proof.proofs.TakenPairs.{OnTaking}
 use Rattle.range_proof.proofs.taking.take.Given as goal
 
 abbrev pub invariant-loop-next : goal.invariant-loop-next

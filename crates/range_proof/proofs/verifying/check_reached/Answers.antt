@@ -2,7 +2,7 @@ use Rattle.std.proofs.Common.{ap, ◌∙◌, sym, subst, map}
 use Rattle.bit_keys.specs.Branch.{width_of}
 use Rattle.proof_model.specs.RangeProofs.{RangeProof}
 use Rattle.proof_check.specs.Claims.{keys_of, pair_of, IsCheckable}
-use Rattle.range_proof.proofs.Reached.{claim_is, checkable, range_told, range_cost}
+use Rattle.range_proof.proofs.CheckedRange.{claim_is, checkable, range_told, range_cost}
 use Rattle.range_proof.proofs.verifying.check_reached.Goals as goal
 
 pub check-requires : goal.check-requires

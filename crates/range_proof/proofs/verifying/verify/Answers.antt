@@ -1,6 +1,6 @@
 use Rattle.bit_keys.specs.Branch.{width_of}
-use Rattle.proof_check.proofs.Whole.{width_of-IsWidth}
-use Rattle.range_proof.proofs.Verified.{accepted_is_true, uncut_is_whole, true_is_accepted}
+use Rattle.proof_check.proofs.WholePoints.{width_of-IsWidth}
+use Rattle.range_proof.proofs.AcceptedProofs.{accepted_is_true, uncut_is_whole, true_is_accepted}
 use Rattle.range_proof.proofs.verifying.verify.Goals as goal
 
 pub returns-clause-sound : goal.returns-clause-sound

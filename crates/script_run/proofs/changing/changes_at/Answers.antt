@@ -3,13 +3,13 @@ use Rattle.std.specs.Prelude.{IfSome}
 use Rattle.bit_keys.specs.Branch.{width_of}
 use Rattle.trie_model.specs.Maps.{Map}
 use Rattle.proof_model.specs.ChangeProofs.{proof_of_changes}
-use Rattle.session_model.specs.Named.{between}
+use Rattle.session_model.specs.MapsByRoot.{between}
 use Rattle.change_history.specs.declared.telling.Taken.{Taken}
 use Rattle.mdb_core.specs.Stores.{DbState, Keeps, held_maps}
-use Rattle.mdb_core.proofs.KeptStores.{kept_same}
+use Rattle.mdb_core.proofs.StoreFiles.{kept_same}
 use Rattle.mdb_core.specs.Spots.{IsSpotOf}
 use Rattle.mdb_core.specs.Places.{GetFails}
-use Rattle.script_run.specs.Naming.{IsTakenBetween}
+use Rattle.script_run.specs.NamedSpots.{IsTakenBetween}
 use Rattle.script_run.proofs.HeldMaps.{later_named, not_named, none_taken, none_between, proof_taken}
 use Rattle.script_run.proofs.changing.changes_at.Goals as goal
 

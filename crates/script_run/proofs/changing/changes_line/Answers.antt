@@ -1,9 +1,9 @@
 use Rattle.std.proofs.Common.{Option, Some, None, sym, ap, ◌∙◌, subst}
 use Rattle.proof_model.specs.ChangeProofs.{ChangeProof}
-use Rattle.session_model.specs.Named.{between}
+use Rattle.session_model.specs.MapsByRoot.{between}
 use Rattle.batch_text.specs.SeenLine.{seen_root}
 use Rattle.mdb_core.specs.Stores.{held_maps}
-use Rattle.script_run.specs.Naming.{IsProofBetween}
+use Rattle.script_run.specs.NamedSpots.{IsProofBetween}
 use Rattle.script_run.proofs.HeldMaps.{no_former, no_later, line_between}
 use Rattle.script_run.proofs.changing.changes_line.Goals as goal
 

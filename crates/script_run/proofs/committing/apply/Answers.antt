@@ -1,13 +1,13 @@
 use Rattle.std.proofs.Common.{[], Err, sym, subst}
-use Rattle.mdb_core.specs.Applies.{ApplyFails}
+use Rattle.mdb_core.specs.AppliedBatches.{ApplyFails}
 use Rattle.session_model.specs.Session.{commit, or_limit}
 use Rattle.script_run.specs.declared.end.SessionEnd.{SessionEnd}
 use Rattle.script_run.specs.Ends.{end_of, fault_end}
-use Rattle.script_run.specs.Steps.{RunsUnprinted, session_of}
+use Rattle.script_run.specs.ScriptSteps.{RunsUnprinted, session_of}
 use Rattle.batch_model.specs.Batch.{after_batch}
 use Rattle.script_run.proofs.HeldMaps.{held_next}
 use Rattle.script_run.proofs.KeptFiles.{kept_leaves}
-use Rattle.script_run.proofs.MadeLines.{kept_if_ok, kept_if_err, went_stopped, went_kept}
+use Rattle.script_run.proofs.LinesToPrint.{kept_if_ok, kept_if_err, went_stopped, went_kept}
 use Rattle.script_run.proofs.Commits.{commit_made, commit_unmade, commit_printing, commit_begun, not_applied}
 use Rattle.script_run.proofs.committing.apply.Goals as goal
 

@@ -5,8 +5,8 @@ use Rattle.session_model.specs.Session.{Session, or_limit, commit}
 use Rattle.session_model.proofs.MapsOfScripts.{Moves, commit-map}
 use Rattle.session_model.proofs.Outcomes.{or_limit-ok}
 use Rattle.script_run.specs.Ends.{end_of}
-use Rattle.script_run.specs.Steps.{IsMade, RunsUnprinted, KeptUnprinted, KeptPrinting}
-use Rattle.script_run.proofs.MadeLines.{session_is, done_printed, stopped_printing, kept_part}
+use Rattle.script_run.specs.ScriptSteps.{IsMade, RunsUnprinted, KeptUnprinted, KeptPrinting}
+use Rattle.script_run.proofs.LinesToPrint.{session_is, done_printed, stopped_printing, kept_part}
 use Rattle.script_run.proofs.committing.commit_and_print.Goals as goal
 
 pub returns-in-Ok-clause-done : goal.returns-in-Ok-clause-done

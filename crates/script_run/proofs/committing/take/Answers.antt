@@ -1,12 +1,12 @@
 use Rattle.std.proofs.Common.{subst}
 use Rattle.mdb_core.specs.Proposals.{TakeFails}
 use Rattle.session_model.specs.Session.{take, or_limit}
-use Rattle.script_run.specs.Steps.{session_of}
+use Rattle.script_run.specs.ScriptSteps.{session_of}
 use Rattle.batch_model.specs.Batch.{after_batch}
 use Rattle.view_model.specs.Maps.{changes_of}
 use Rattle.script_run.proofs.HeldMaps.{held_next}
 use Rattle.script_run.proofs.KeptFiles.{kept_leaves}
-use Rattle.script_run.proofs.MadeLines.{kept_if_ok, kept_if_err, went_done, went_stopped, went_kept, went_told}
+use Rattle.script_run.proofs.LinesToPrint.{kept_if_ok, kept_if_err, went_done, went_stopped, went_kept, went_told}
 use Rattle.script_run.proofs.Commits.{take_made, take_unmade, take_printing, take_begun, not_taken}
 use Rattle.script_run.proofs.committing.take.Goals as goal
 

@@ -9,15 +9,15 @@ use Rattle.batch_text.specs.SeenLine.{seen_line, seen_place, seen_root}
 use Rattle.batch_text.specs.declared.line.Line.{Line}
 use Rattle.mdb_core.specs.Stores.{held_maps}
 use Rattle.mdb_core.specs.declared.fault.DbFault.TheVariants.{Disk}
-use Rattle.mdb_core.proofs.KeptStores.{kept_stands, kept_same}
-use Rattle.session_model.specs.Named.{proved, range_proved, changes_proved}
+use Rattle.mdb_core.proofs.StoreFiles.{kept_stands, kept_same}
+use Rattle.session_model.specs.MapsByRoot.{proved, range_proved, changes_proved}
 use Rattle.session_model.specs.Session.{or_limit, line_step, commit, view, told, told_proof}
 use Rattle.run_model.specs.Script.{Keeps as KeepsSteps}
 use Rattle.script_run.specs.Ends.{end_of}
-use Rattle.script_run.specs.Steps.{IsMade, IsQuiet, RunsUnprinted, KeptUnprinted, KeptPrinting, played, session_of}
+use Rattle.script_run.specs.ScriptSteps.{IsMade, IsQuiet, RunsUnprinted, KeptUnprinted, KeptPrinting, played, session_of}
 use Rattle.script_run.proofs.KeptFiles.{kept_leaves}
 use Rattle.script_run.proofs.KeptSteps.{idle}
-use Rattle.script_run.proofs.MadeLines.{Went, quiet_done, quiet_stopped, quiet_kept, quiet_told, went_done, went_stopped, went_kept, went_told}
+use Rattle.script_run.proofs.LinesToPrint.{Went, quiet_done, quiet_stopped, quiet_kept, quiet_told, went_done, went_stopped, went_kept, went_told}
 use Rattle.script_run.proofs.QuietLines.{skip_quiet, pend_quiet}
 use Rattle.script_run.proofs.Views.{state_quiet, told_quiet, told_got, proof_got, range_got, changes_got}
 use Rattle.script_run.proofs.line_step.do_line.Goals as goal

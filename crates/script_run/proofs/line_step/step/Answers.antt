@@ -5,8 +5,8 @@ use Rattle.batch_text.specs.SeenLine.{seen_line}
 use Rattle.session_model.specs.Session.{Session, Step, Stop, or_limit, line_step, step, read_step}
 use Rattle.session_model.proofs.MapsOfScripts.{step-map}
 use Rattle.script_run.specs.Ends.{end_of}
-use Rattle.script_run.specs.Steps.{IsMade, RunsUnprinted, KeptUnprinted, KeptPrinting}
-use Rattle.script_run.proofs.MadeLines.{session_is, done_printed, stopped_printing, kept_part}
+use Rattle.script_run.specs.ScriptSteps.{IsMade, RunsUnprinted, KeptUnprinted, KeptPrinting}
+use Rattle.script_run.proofs.LinesToPrint.{session_is, done_printed, stopped_printing, kept_part}
 use Rattle.script_run.proofs.QuietLines.{kept_still, unread_runs}
 use Rattle.script_run.proofs.line_step.step.Goals as goal
 

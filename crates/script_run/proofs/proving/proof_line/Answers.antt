@@ -3,13 +3,13 @@ use Rattle.trie_model.specs.Maps.{Map}
 use Rattle.proof_model.specs.Proofs.{point_proof}
 use Rattle.proof_model.specs.Wire.{point_form}
 use Rattle.text_model.specs.Texts.{proof_text}
-use Rattle.session_model.specs.Named.{proof_of, named}
+use Rattle.session_model.specs.MapsByRoot.{proof_of, named}
 use Rattle.batch_text.specs.SeenLine.{seen_root}
 use Rattle.mdb_core.specs.Stores.{DbState, Keeps, held_maps}
 use Rattle.mdb_core.specs.Spots.{IsSpotOf}
-use Rattle.mdb_core.proofs.KeptStores.{kept_same}
+use Rattle.mdb_core.proofs.StoreFiles.{kept_same}
 use Rattle.mdb_core.specs.declared.spot.Spot.{Spot}
-use Rattle.script_run.specs.Naming.{IsSpotNamed}
+use Rattle.script_run.specs.NamedSpots.{IsSpotNamed}
 use Rattle.script_run.proofs.HeldMaps.{none_of, one_of}
 use Rattle.script_run.proofs.proving.proof_line.Goals as goal
 

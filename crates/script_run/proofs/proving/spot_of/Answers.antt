@@ -6,7 +6,7 @@ use Rattle.batch_text.specs.SeenLine.{seen_root}
 use Rattle.mdb_core.specs.Stores.{DbState, held_maps}
 use Rattle.mdb_core.specs.Spots.{IsSpotOf}
 use Rattle.mdb_core.specs.Places.{GetFails}
-use Rattle.script_run.specs.Naming.{IsSpotNamed}
+use Rattle.script_run.specs.NamedSpots.{IsSpotNamed}
 use Rattle.script_run.proofs.HeldMaps.{none_meant, some_meant, not_named, spot_named}
 use Rattle.script_run.proofs.proving.spot_of.Goals as goal
 

@@ -2,16 +2,16 @@ use Rattle.std.proofs.Common.{◌≡◌, ℕ, ap, refl, sym, subst, arith, Resul
 use Rattle.std.specs.Prelude.{IfSome}
 use Rattle.disk_model.specs.Words.{TellsContents, TellsImages}
 use Rattle.disk_model.proofs.Telling.{contents_too}
-use Rattle.run_model.specs.Outside.{outside, disk_seen}
+use Rattle.run_model.specs.OutsideThings.{outside, disk_seen}
 use Rattle.run_model.specs.Script.{ScriptRuns, Keeps as KeepsSteps}
 use Rattle.session_model.specs.Session.{Session, Step, Stop, step}
 use Rattle.batch_text.specs.Stream.{SettlesNothing}
 use Rattle.batch_text.specs.declared.reader.ReaderFault.{ReaderFault}
 use Rattle.batch_text.specs.declared.reader.ReaderFault.TheVariants.{Read as ReadFault}
-use Rattle.mdb_journal.specs.Moves.{AreSynced}
+use Rattle.mdb_journal.specs.DiskMoves.{AreSynced}
 use Rattle.script_run.specs.declared.end.SessionEnd.{SessionEnd}
 use Rattle.script_run.specs.Ends.{end_of}
-use Rattle.script_run.specs.Steps.{IsAt, IsDone, PartRuns, played}
+use Rattle.script_run.specs.ScriptSteps.{IsAt, IsDone, PartRuns, played}
 use Rattle.script_run.proofs.LineCauses.{fits_start, fits_on, step_not_done, step_not_read}
 use Rattle.script_run.proofs.ScriptSoFar.{Place, at_start, goes_on, all_done_at_end, line_stops, line_kept, reader_stops, reader_kept}
 use Rattle.script_run.proofs.script.run_lines.Goals as goal

@@ -3,9 +3,9 @@ use Rattle.base_model.specs.Faults.{TellsAlike}
 use Rattle.disk_model.specs.Words.{TellsContents, TellsImages}
 use Rattle.trie_model.specs.Maps.{Map}
 use Rattle.text_model.specs.Lines.{input_limit}
-use Rattle.run_model.specs.Outside.{disk_seen}
+use Rattle.run_model.specs.OutsideThings.{disk_seen}
 use Rattle.batch_text.specs.Stream.{EndHolds}
-use Rattle.mdb_journal.specs.Moves.{AreSynced}
+use Rattle.mdb_journal.specs.DiskMoves.{AreSynced}
 use Rattle.mdb_core.specs.Stores.{Keeps, is_failed}
 use Rattle.store_opening.specs.Opening.{IsJustOpened}
 use Rattle.script_run.proofs.LineCauses.{FitsAlike}

@@ -2,10 +2,10 @@ use Rattle.std.proofs.Common.{ℕ, subst}
 use Rattle.disk_model.proofs.Telling.{contents_too}
 use Rattle.session_model.specs.Session.{Session}
 use Rattle.session_model.specs.Script.{at_end}
-use Rattle.run_model.specs.Outside.{disk_seen}
+use Rattle.run_model.specs.OutsideThings.{disk_seen}
 use Rattle.run_model.specs.Script.{Keeps as KeepsSteps}
 use Rattle.script_run.specs.Ends.{end_of}
-use Rattle.script_run.specs.Steps.{IsAt, PartRuns, still}
+use Rattle.script_run.specs.ScriptSteps.{IsAt, PartRuns, still}
 use Rattle.script_run.proofs.WholeScripts.{last_not_read, whole_runs, whole_kept}
 use Rattle.script_run.proofs.script.session.Goals as goal
 

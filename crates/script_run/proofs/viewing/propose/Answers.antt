@@ -8,7 +8,7 @@ use Rattle.session_model.specs.Session.{view, or_limit}
 use Rattle.mdb_core.specs.Stores.{DbState, root_at}
 use Rattle.mdb_core.specs.Proposals.{Makes, MakeFails}
 use Rattle.store_opening.specs.Opening.{holding_of}
-use Rattle.script_run.specs.Steps.{IsQuiet, session_of}
+use Rattle.script_run.specs.ScriptSteps.{IsQuiet, session_of}
 use Rattle.script_run.proofs.Views.{view_made, not_made}
 use Rattle.script_run.proofs.viewing.propose.Goals as goal
 

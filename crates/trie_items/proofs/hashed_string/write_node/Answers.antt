@@ -2,7 +2,7 @@ use Rattle.std.proofs.Common.{sym, length}
 use Rattle.std.specs.Option.{option_copied}
 use Rattle.std.proofs.lemmas.List.{length-map}
 use Rattle.trie_items.specs.Children.{children_of}
-use Rattle.trie_items.proofs.Pieces.{written}
+use Rattle.trie_items.proofs.NodePieces.{written}
 use Rattle.trie_items.proofs.hashed_string.write_node.Goals as goal
 
 pub returns-clause-ok : goal.returns-clause-ok

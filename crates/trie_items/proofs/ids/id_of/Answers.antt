@@ -3,7 +3,7 @@ use Rattle.sha2.specs.Sha256.{sha256}
 use Rattle.std.specs.Option.{option_copied}
 use Rattle.std.proofs.lemmas.List.{length-map}
 use Rattle.trie_items.specs.Children.{children_of}
-use Rattle.trie_items.proofs.Pieces.{pieces}
+use Rattle.trie_items.proofs.NodePieces.{pieces}
 use Rattle.trie_items.proofs.ids.id_of.Goals as goal
 
 pub returns-clause-id : goal.returns-clause-id

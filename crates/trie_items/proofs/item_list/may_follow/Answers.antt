@@ -1,6 +1,6 @@
 use Rattle.std.proofs.Common.{map}
 use Rattle.trie_items.specs.Items.{item_of}
-use Rattle.trie_items.proofs.Ordered.{last_got, got_mapped}
+use Rattle.trie_items.proofs.OrderedItems.{last_got, got_mapped}
 use Rattle.trie_items.proofs.item_list.may_follow.Goals as goal
 
 pub returns-in-Some : goal.returns-in-Some

@@ -7,7 +7,7 @@ use Rattle.trie_model.specs.Ids.{node_key, children, id}
 use Rattle.trie_model.specs.Strings.{strings, strings_below}
 use Rattle.trie_items.specs.Children.{children_of}
 use Rattle.trie_items.specs.Items.{item_of}
-use Rattle.trie_items.specs.Roots.{depth, lone, slot_id, slot_strings}
+use Rattle.trie_items.specs.SlotIds.{depth, lone, slot_id, slot_strings}
 use Rattle.trie_items.proofs.RootRuns.{tokens_are, run_fits, split_fits, start, turned, shallower, root_is, cost_is, one_child_more, one_run_more}
 use Rattle.trie_items.proofs.roots.+slot_root.Goals as goal
 

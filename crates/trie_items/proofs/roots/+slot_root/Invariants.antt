@@ -6,7 +6,7 @@ use Rattle.trie_model.specs.Items.{IsValid}
 use Rattle.trie_model.specs.Strings.{strings, strings_below}
 use Rattle.trie_items.specs.Children.{children_of}
 use Rattle.trie_items.specs.Items.{item_of}
-use Rattle.trie_items.specs.Roots.{depth}
+use Rattle.trie_items.specs.SlotIds.{depth}
 use Rattle.trie_items.proofs.NodeKeys.{Hanging}
 use Rattle.trie_items.proofs.roots.+slot_root.Given as goal
 

@@ -3,7 +3,7 @@ use Rattle.std.specs.List.{AllByRecursion, prefix_len}
 use Rattle.bit_keys.specs.Branch.{width_of}
 use Rattle.trie_model.specs.Items.{Item, place_of}
 use Rattle.trie_items.specs.Items.{item_of}
-use Rattle.trie_items.specs.Roots.{has_token}
+use Rattle.trie_items.specs.SlotIds.{has_token}
 use Rattle.trie_items.proofs.roots.run_len.Given as goal
 
 abbrev pub invariant-loop-count : goal.invariant-loop-count

@@ -3,7 +3,7 @@ use Rattle.std.specs.List.{flat_map}
 use Rattle.batch_model.specs.Batch.{Change, change_form}
 use Rattle.std.specs.FinMap.{get}
 use Rattle.value_store.specs.Index.{Places, up_to}
-use Rattle.value_store.specs.Placing.{value_place, with_room, room_for}
+use Rattle.value_store.specs.ValuePlaces.{value_place, with_room, room_for}
 use Rattle.value_store.proofs.PlacesAfter.{left_is, left_length, room_behind, value_behind_start}
 use Rattle.value_store.proofs.placing.fill_room.Goals as goal
 

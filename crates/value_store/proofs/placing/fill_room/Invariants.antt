@@ -3,7 +3,7 @@ use Rattle.std.specs.List.{flat_map}
 use Rattle.std.specs.FinMap.{get}
 use Rattle.batch_model.specs.Batch.{change_form}
 use Rattle.value_store.specs.Index.{up_to}
-use Rattle.value_store.specs.Placing.{with_room}
+use Rattle.value_store.specs.ValuePlaces.{with_room}
 use Rattle.value_store.proofs.placing.fill_room.Given as goal
 
 abbrev pub invariant-loop-change : goal.invariant-loop-change

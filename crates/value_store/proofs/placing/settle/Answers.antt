@@ -4,8 +4,8 @@ use Rattle.std.specs.List.{flat_map}
 use Rattle.std.specs.FinMap.{get}
 use Rattle.batch_model.specs.Batch.{Change, AreRising, change_form}
 use Rattle.value_store.specs.Index.{Places}
-use Rattle.value_store.specs.Reading.{laid}
-use Rattle.value_store.specs.Placing.{value_place, laid_all, HasRoom}
+use Rattle.value_store.specs.BatchReading.{laid}
+use Rattle.value_store.specs.ValuePlaces.{value_place, laid_all, HasRoom}
 use Rattle.value_store.proofs.PlacesAfter.{left_is, left_length, room_now, room_later}
 use Rattle.value_store.proofs.placing.settle.Goals as goal
 

@@ -1,7 +1,7 @@
 use Rattle.std.proofs.Common.{◌≡◌, ◌+◌, List, ℕ, Option, length, drop}
 use Rattle.std.specs.List.{flat_map}
 use Rattle.batch_model.specs.Batch.{AreRising, change_form}
-use Rattle.value_store.specs.Placing.{laid_all, HasRoom}
+use Rattle.value_store.specs.ValuePlaces.{laid_all, HasRoom}
 use Rattle.value_store.proofs.placing.settle.Given as goal
 
 abbrev pub invariant-loop-change : goal.invariant-loop-change

@@ -4,7 +4,7 @@ use Rattle.mdb_journal.specs.Journal.{JournalState}
 use Rattle.trie_model.specs.Maps.{limits}
 use Rattle.batch_model.specs.Batch.{Outside, batch_of}
 use Rattle.value_store.specs.declared.fault.ValueFault.{ValueFault}
-use Rattle.value_store.specs.Reading.{BatchRead, Shows, RecordsFail, payload_at}
+use Rattle.value_store.specs.BatchReading.{BatchRead, Shows, RecordsFail, payload_at}
 use Rattle.value_store.proofs.RecordGates.{none_left, not_damaged, next_record, other_record, batch_record, wrong_record, end_inside, read_fails}
 use Rattle.value_store.proofs.records.read_record.Goals as goal
 

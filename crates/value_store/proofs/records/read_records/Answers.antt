@@ -2,7 +2,7 @@ use Rattle.std.proofs.Common.{ℕ, List, refl, sym, ap, ◌∙◌, subst, arith}
 use Rattle.std.specs.FinMap as map_of
 use Rattle.mdb_journal.specs.Journal.{JournalState}
 use Rattle.value_store.specs.Index.{Places, AreInFile}
-use Rattle.value_store.specs.Reading.{Standing, Found, RecordsFail}
+use Rattle.value_store.specs.BatchReading.{Standing, Found, RecordsFail}
 use Rattle.value_store.proofs.RecordGates.{at_first, none_in_file, still_knows, still_file}
 use Rattle.value_store.proofs.records.read_records.Goals as goal
 

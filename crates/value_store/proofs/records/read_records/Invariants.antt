@@ -5,7 +5,7 @@ use Rattle.store_model.specs.Record.{Record}
 use Rattle.mdb_journal.specs.Journal.{Knows}
 use Rattle.mdb_journal.specs.Opening.{Untouched}
 use Rattle.value_store.specs.Index.{AreInFile}
-use Rattle.value_store.specs.Reading.{Standing}
+use Rattle.value_store.specs.BatchReading.{Standing}
 use Rattle.value_store.proofs.records.read_records.Given as goal
 
 abbrev pub invariant-records : goal.invariant-records

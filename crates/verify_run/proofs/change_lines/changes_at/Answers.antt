@@ -1,8 +1,8 @@
 use Rattle.std.proofs.Common.{refl, sym, subst}
 use Rattle.bit_keys.specs.Branch.{width_of}
-use Rattle.run_model.specs.Outside.{disk_seen}
+use Rattle.run_model.specs.OutsideThings.{disk_seen}
 use Rattle.store_opening.specs.Opening.{end_of_fault}
-use Rattle.verify_run.specs.Locals.{IsLocal}
+use Rattle.verify_run.specs.LocalStores.{IsLocal}
 use Rattle.verify_run.proofs.StoresLeft.{failed_left, unopened, counted_in, refused_in, lost_in, kept_in}
 use Rattle.verify_run.proofs.change_lines.changes_at.Goals as goal
 

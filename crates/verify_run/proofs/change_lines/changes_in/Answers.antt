@@ -1,7 +1,7 @@
 use Rattle.std.proofs.Common.{refl, subst}
 use Rattle.bit_keys.specs.Branch.{width_of}
 use Rattle.trie_model.specs.Maps.{limits}
-use Rattle.proof_model.specs.Checked.{change_checked, checked}
+use Rattle.proof_model.specs.CheckedBytes.{change_checked, checked}
 use Rattle.proof_model.specs.ChangeProofs.{change_refusal}
 use Rattle.proof_model.specs.ChangeWire.{changes_of}
 use Rattle.verify_run.specs.Checks.{IsRefusedOr, wire_fault, check_fault}

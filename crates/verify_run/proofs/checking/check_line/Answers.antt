@@ -3,9 +3,9 @@ use Rattle.std.specs.Prelude.{IfErr}
 use Rattle.bit_keys.specs.Branch.{width_of}
 use Rattle.batch_text.specs.SeenLine.{seen_line}
 use Rattle.text_model.specs.ReadLine.{Verify, read_line}
-use Rattle.run_model.specs.Outside.{disk_seen}
+use Rattle.run_model.specs.OutsideThings.{disk_seen}
 use Rattle.verify_run.specs.Ends.{end_of, Leaves}
-use Rattle.verify_run.specs.Locals.{Stops}
+use Rattle.verify_run.specs.LocalStores.{Stops}
 use Rattle.verify_run.proofs.ProofFaults.{as_line}
 use Rattle.verify_run.proofs.StoresLeft.{unread_stops}
 use Rattle.verify_run.proofs.checking.check_line.Goals as goal

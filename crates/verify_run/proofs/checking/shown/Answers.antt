@@ -3,10 +3,10 @@ use Rattle.bit_keys.specs.Branch.{width_of}
 use Rattle.batch_text.specs.SeenLine.{seen_line}
 use Rattle.batch_text.specs.declared.line.Line.{Line}
 use Rattle.text_model.specs.ReadLine.{VerifyChanges}
-use Rattle.run_model.specs.Outside.{disk_seen}
+use Rattle.run_model.specs.OutsideThings.{disk_seen}
 use Rattle.verify_run.specs.Checks.{IsShown, IsNotShown, end_at}
 use Rattle.verify_run.specs.Ends.{end_of}
-use Rattle.verify_run.specs.Locals.{Goes, Stops}
+use Rattle.verify_run.specs.LocalStores.{Goes, Stops}
 use Rattle.verify_run.proofs.StoresLeft.{goes_changes, stops_changes, alone_shown, alone_not_shown}
 use Rattle.verify_run.proofs.ProofFaults.{not_changes}
 use Rattle.verify_run.proofs.checking.shown.Goals as goal

@@ -7,8 +7,8 @@ use Rattle.store_model.specs.Refusals.{Refusal}
 use Rattle.text_model.specs.Lines.{input_limit}
 use Rattle.batch_text.specs.Stream.{EndHolds}
 use Rattle.batch_text.proofs.UsedBytes.{HasUsed}
-use Rattle.run_model.specs.Outside.{disk_seen}
-use Rattle.verify_run.specs.Locals.{IsLocal, IsFoundWhere}
+use Rattle.run_model.specs.OutsideThings.{disk_seen}
+use Rattle.verify_run.specs.LocalStores.{IsLocal, IsFoundWhere}
 use Rattle.verify_run.proofs.LinesSoFar.{passes, Within}
 use Rattle.verify_run.proofs.VerifyEnds.{Known}
 use Rattle.verify_run.proofs.lines.check_lines.Given as goal

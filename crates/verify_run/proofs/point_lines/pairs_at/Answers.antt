@@ -1,7 +1,7 @@
 use Rattle.std.proofs.Common.{refl, subst}
 use Rattle.bit_keys.specs.Branch.{width_of}
 use Rattle.trie_model.specs.Maps.{limits}
-use Rattle.proof_model.specs.Checked.{point_checked}
+use Rattle.proof_model.specs.CheckedBytes.{point_checked}
 use Rattle.proof_model.specs.Refusals.{point_refusal}
 use Rattle.proof_model.specs.Wire.{point_of}
 use Rattle.verify_run.specs.Checks.{IsRefused, check_fault}

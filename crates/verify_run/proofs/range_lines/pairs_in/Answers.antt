@@ -1,7 +1,7 @@
 use Rattle.std.proofs.Common.{refl, subst}
 use Rattle.bit_keys.specs.Branch.{width_of}
 use Rattle.trie_model.specs.Maps.{limits}
-use Rattle.proof_model.specs.Checked.{range_checked}
+use Rattle.proof_model.specs.CheckedBytes.{range_checked}
 use Rattle.proof_model.specs.RangeProofs.{range_refusal}
 use Rattle.proof_model.specs.RangeWire.{range_of}
 use Rattle.verify_run.specs.Checks.{IsRefused, check_fault}

@@ -1,7 +1,7 @@
 use Rattle.std.proofs.Common.{refl, subst}
 use Rattle.bit_keys.specs.Branch.{width_of}
-use Rattle.run_model.specs.Outside.{disk_seen}
-use Rattle.verify_run.specs.Locals.{IsLocal}
+use Rattle.run_model.specs.OutsideThings.{disk_seen}
+use Rattle.verify_run.specs.LocalStores.{IsLocal}
 use Rattle.verify_run.proofs.StoresLeft.{all_opened}
 use Rattle.verify_run.proofs.store.opened.Goals as goal
 

@@ -1,6 +1,6 @@
 use Rattle.std.proofs.Common.{arith}
 use Rattle.view_model.specs.Forest.{state}
-use Rattle.view_stack.proofs.Nexts.{live_told, alone_may_commit}
+use Rattle.view_stack.proofs.CommittableViews.{live_told, alone_may_commit}
 use Rattle.view_stack.proofs.tests.commit.Goals as goal
 
 pub committed-requires : goal.committed-requires

@@ -1,6 +1,6 @@
 use Rattle.std.proofs.Common.{◌≡◌, ◌/◌, ◌++◌, ap, ◌∙◌, take, get_or}
 use Rattle.trie_model.specs.Bits.{packed}
-use Rattle.bit_keys.proofs.Cuts.{with_part, without_part, cut_bytes, length-cut}
+use Rattle.bit_keys.proofs.CutBytes.{with_part, without_part, cut_bytes, length-cut}
 use Rattle.bit_keys.proofs.KeyFacts.{packed_key, packed_fits}
 use Rattle.bit_keys.proofs.key.Key.first.Goals as goal
 use Rattle.bit_keys.proofs.key.Key.first.Goals.{then-bits-gt0+in_ok-push, else-bits-gt0}

@@ -1,6 +1,6 @@
 use Rattle.std.proofs.Common.{◌≡◌, ◌≤◌, ◌*◌, arith, sym, subst, refl, length, take}
 use Rattle.trie_model.specs.Bits.{bits_of_bytes, packed}
-use Rattle.bit_keys.proofs.Parts.{filled_packed}
+use Rattle.bit_keys.proofs.FilledBytes.{filled_packed}
 use Rattle.bit_keys.proofs.key.Key.from_parts.Goals as goal
 
 pub invariant_of-result : goal.invariant_of-result

@@ -1,6 +1,6 @@
 use Rattle.std.proofs.Common.{arith}
 use Rattle.trie_model.proofs.Keys.{made, made_view}
-use Rattle.bit_keys.proofs.Parts.{small_within}
+use Rattle.bit_keys.proofs.FilledBytes.{small_within}
 use Rattle.bit_keys.proofs.Bounds.{are_bytes}
 use Rattle.bit_keys.proofs.key.Key.from_vec.Goals as goal
 

@@ -1,7 +1,7 @@
 use Rattle.std.proofs.Common.{◌≡◌, sym, ap, ◌∙◌, length, eqb}
 use Rattle.trie_model.proofs.Keys.{length-key}
 use Rattle.trie_model.specs.Bits.{common_prefix}
-use Rattle.bit_keys.proofs.Shared.{begins}
+use Rattle.bit_keys.proofs.SharedBits.{begins}
 use Rattle.bit_keys.proofs.key.Key.is_prefix.Goals as goal
 
 pub returns : goal.returns

@@ -1,6 +1,6 @@
 use Rattle.std.proofs.Common.{◌+◌, ◌*◌, arith, inl, inr, sym, subst, ◌∙◌}
 use Rattle.bit_keys.proofs.KeyFacts.{IsKey}
-use Rattle.bit_keys.proofs.Shared.{before_fits, shared_apart, shared_along}
+use Rattle.bit_keys.proofs.SharedBits.{before_fits, shared_apart, shared_along}
 use Rattle.bit_keys.proofs.key.Key.shared.Goals as goal
 use Rattle.bit_keys.proofs.key.Key.shared.Goals.{then-equal-own-via-then-equal-own, then-equal-own-via-else-equal-own+then-equal-others}
 

@@ -1,9 +1,9 @@
 use Rattle.std.proofs.Common.{◌≡◌, ◌+◌, ◌-◌, ◌/◌, ap, sym, subst, Vec, Global}
 use Rattle.change_history.specs.declared.net.Net.{Net}
-use Rattle.change_history.specs.Nets.{nets_of, IsSum}
-use Rattle.change_history.specs.Merged.{IsMerged}
-use Rattle.change_history.proofs.Answered.{if_ok}
-use Rattle.change_history.proofs.Sums.{no_sum, two_sums}
+use Rattle.change_history.specs.NetChanges.{nets_of, IsSum}
+use Rattle.change_history.specs.MergedDeltas.{IsMerged}
+use Rattle.change_history.proofs.CallAnswers.{if_ok}
+use Rattle.change_history.proofs.NetsBetweenMaps.{no_sum, two_sums}
 use Rattle.change_history.proofs.history.History.+sum.Goals as goal
 
 pub returns-then-former-later : goal.returns-then-former-later

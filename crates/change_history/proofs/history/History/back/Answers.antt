@@ -1,4 +1,4 @@
-use Rattle.change_history.proofs.Located.{told_back}
+use Rattle.change_history.proofs.RootPlaces.{told_back}
 use Rattle.change_history.proofs.history.History.back.Goals as goal
 
 pub returns-clause-recalls : goal.returns-clause-recalls

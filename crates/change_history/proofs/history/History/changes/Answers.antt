@@ -1,8 +1,8 @@
 use Rattle.std.proofs.Common.{◌∙◌, ap}
 use Rattle.std.specs.Prelude.{is_some}
 use Rattle.change_history.specs.Histories.{roots}
-use Rattle.change_history.proofs.Answered.{tells_no_end, tells_no_start, tells_changes, tells_want}
-use Rattle.change_history.proofs.Located.{kept_there, kept_nowhere, start_nowhere, start_told}
+use Rattle.change_history.proofs.CallAnswers.{tells_no_end, tells_no_start, tells_changes, tells_want}
+use Rattle.change_history.proofs.RootPlaces.{kept_there, kept_nowhere, start_nowhere, start_told}
 use Rattle.change_history.proofs.history.History.changes.Goals as goal
 
 pub returns-in_default : goal.returns-in_default

@@ -1,6 +1,6 @@
 use Rattle.std.proofs.Common.{◌≡◌, ◌+◌, ◌∙◌, ap, sym, arith, length}
 use Rattle.change_history.specs.Histories.{HistoryState, roots}
-use Rattle.change_history.proofs.Located.{right_here, not_here, not_past, length-roots}
+use Rattle.change_history.proofs.RootPlaces.{right_here, not_here, not_past, length-roots}
 use Rattle.change_history.proofs.history.History.find.Goals as goal
 
 pub returns-then-is_at : goal.returns-then-is_at

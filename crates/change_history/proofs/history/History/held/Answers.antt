@@ -1,7 +1,7 @@
 use Rattle.std.proofs.Common.{◌∙◌, ap}
 use Rattle.std.specs.Prelude.{is_some}
 use Rattle.change_history.specs.Histories.{roots}
-use Rattle.change_history.proofs.Located.{told_held, told_kept}
+use Rattle.change_history.proofs.RootPlaces.{told_held, told_kept}
 use Rattle.change_history.proofs.history.History.held.Goals as goal
 
 pub returns : goal.returns

@@ -1,6 +1,6 @@
 use Rattle.std.proofs.Common.{◌≡◌, ◌∙◌, ap, sym, arith}
 use Rattle.change_history.specs.Histories.{is_root}
-use Rattle.change_history.proofs.Located.{tested}
+use Rattle.change_history.proofs.RootPlaces.{tested}
 use Rattle.change_history.proofs.history.History.is_at.Goals as goal
 
 pub returns-in-Some : goal.returns-in-Some

@@ -1,9 +1,9 @@
 use Rattle.std.proofs.Common.{◌≡◌, ◌∙◌, ap, map, subst}
 use Rattle.history_model.specs.Changes.{change_of}
 use Rattle.change_history.specs.declared.telling.Taken.{Taken}
-use Rattle.change_history.specs.Nets.{nets_of}
-use Rattle.change_history.specs.Told.{IsTaken, AreListed}
-use Rattle.change_history.proofs.Answered.{if_ok}
+use Rattle.change_history.specs.NetChanges.{nets_of}
+use Rattle.change_history.specs.ToldChanges.{IsTaken, AreListed}
+use Rattle.change_history.proofs.CallAnswers.{if_ok}
 use Rattle.change_history.proofs.history.History.listed.Goals as goal
 
 pub returns : goal.returns

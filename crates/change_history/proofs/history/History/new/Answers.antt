@@ -1,5 +1,5 @@
 use Rattle.std.proofs.Common.{◌≡◌, ap}
-use Rattle.change_history.proofs.Recalled.{recalls-first}
+use Rattle.change_history.proofs.RecalledMaps.{recalls-first}
 use Rattle.change_history.proofs.history.History.new.Goals as goal
 
 pub returns-clause-recalls : goal.returns-clause-recalls

@@ -4,9 +4,9 @@ use Rattle.std.specs.Option.{option_copied}
 use Rattle.history_model.specs.Changes.{lies_in}
 use Rattle.change_history.specs.declared.net.Net.{Net}
 use Rattle.change_history.specs.Histories.{HistoryState}
-use Rattle.change_history.specs.Nets.{nets_of, IsSum}
-use Rattle.change_history.proofs.Answered.{if_ok}
-use Rattle.change_history.proofs.Sums.{one_sum, none_there}
+use Rattle.change_history.specs.NetChanges.{nets_of, IsSum}
+use Rattle.change_history.proofs.CallAnswers.{if_ok}
+use Rattle.change_history.proofs.NetsBetweenMaps.{one_sum, none_there}
 use Rattle.change_history.proofs.history.History.one.Goals as goal
 
 pub returns-in-Some : goal.returns-in-Some

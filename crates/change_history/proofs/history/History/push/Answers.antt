@@ -1,6 +1,6 @@
 use Rattle.std.proofs.Common.{◌≡◌, ◌∙◌, ◌∷◌, sym, ap, subst}
 use Rattle.change_history.specs.Histories.{HistoryState, Recalls}
-use Rattle.change_history.proofs.Recalled.{recalls-pushed, pushed_parts}
+use Rattle.change_history.proofs.RecalledMaps.{recalls-pushed, pushed_parts}
 use Rattle.change_history.proofs.history.History.push.Goals as goal
 
 pub returns-clause-recalls : goal.returns-clause-recalls

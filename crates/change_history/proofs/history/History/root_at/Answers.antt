@@ -2,7 +2,7 @@ use Rattle.std.proofs.Common.{◌≡◌, ◌-◌, ◌∙◌, ap, sym, arith, Som
 use Rattle.std.specs.List.{slice_get}
 use Rattle.std.specs.Option.{option_copied}
 use Rattle.change_history.specs.Histories.{CommitState, HistoryState, roots}
-use Rattle.change_history.proofs.Located.{root_behind}
+use Rattle.change_history.proofs.RootPlaces.{root_behind}
 use Rattle.change_history.proofs.history.History.root_at.Goals as goal
 
 pub returns-in-Some : goal.returns-in-Some

@@ -1,6 +1,6 @@
 use Rattle.change_history.specs.Histories.{roots}
-use Rattle.change_history.proofs.Answered.{leads_nowhere, leads_back, leads_want}
-use Rattle.change_history.proofs.Located.{kept_there, kept_nowhere}
+use Rattle.change_history.proofs.CallAnswers.{leads_nowhere, leads_back, leads_want}
+use Rattle.change_history.proofs.RootPlaces.{kept_there, kept_nowhere}
 use Rattle.change_history.proofs.history.History.undo_to.Goals as goal
 
 pub returns-in_default : goal.returns-in_default

@@ -3,8 +3,8 @@ use Rattle.trie_model.specs.Maps.{Map}
 use Rattle.range_model.specs.Ranges.{Range, everything}
 use Rattle.batch_model.specs.Batch.{Change, after_batch}
 use Rattle.change_history.specs.Histories.{Recalls, held_by, undo_of}
-use Rattle.change_history.specs.Nets.{nets_of, map_at, IsSum}
-use Rattle.change_history.proofs.Answered.{if_ok, led_back}
+use Rattle.change_history.specs.NetChanges.{nets_of, map_at, IsSum}
+use Rattle.change_history.proofs.CallAnswers.{if_ok, led_back}
 use Rattle.change_history.proofs.history.History.way_back.Goals as goal
 
 pub returns : goal.returns

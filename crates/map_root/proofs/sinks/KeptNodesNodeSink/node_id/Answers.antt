@@ -1,7 +1,7 @@
 use Rattle.std.proofs.Common.{ap, ◌∙◌}
 use Rattle.std.specs.Option.{option_copied}
 use Rattle.trie_items.specs.Children.{children_of}
-use Rattle.map_root.specs.Kept.{stored}
+use Rattle.map_root.specs.KeptNodes.{stored}
 use Rattle.map_root.proofs.KeptChildren.{row_id, stored_ids}
 use Rattle.map_root.proofs.sinks.KeptNodesNodeSink.node_id.Goals as goal
 

@@ -1,7 +1,7 @@
 use Rattle.std.proofs.Common.{◌∙◌}
 use Rattle.std.specs.Option.{option_copied}
 use Rattle.trie_items.specs.Children.{children_of}
-use Rattle.map_root.specs.Kept.{hashed}
+use Rattle.map_root.specs.KeptNodes.{hashed}
 use Rattle.map_root.proofs.KeptChildren.{row_id, hashed_ids}
 use Rattle.map_root.proofs.sinks.NoNodesNodeSink.node_id.Goals as goal
 

@@ -1,5 +1,5 @@
 use Rattle.bit_keys.specs.Branch.{width_of}
-use Rattle.map_root.specs.Built.{pair_items}
+use Rattle.map_root.specs.BuilderPairs.{pair_items}
 use Rattle.node_table.proofs.RowsByKey.{table_rises}
 use Rattle.mdb_core.proofs.digests.Digests.nodes.Goals as goal
 

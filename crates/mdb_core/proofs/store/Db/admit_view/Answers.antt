@@ -1,5 +1,5 @@
 use Rattle.std.proofs.Common.{sym, ◌∙◌, subst}
-use Rattle.view_stack.specs.Told.{number_in}
+use Rattle.view_stack.specs.ViewAnswers.{number_in}
 use Rattle.mdb_core.specs.Stores.{DbState}
 use Rattle.mdb_core.specs.Proposals.{MakeFails}
 use Rattle.mdb_core.proofs.Refusals.{make_fails}

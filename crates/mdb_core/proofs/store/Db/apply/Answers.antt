@@ -3,7 +3,7 @@ use Rattle.std.specs.Prelude.{MatchOption}
 use Rattle.batch_model.specs.Batch.{after_batch}
 use Rattle.history_model.specs.Changes.{deltas, weight}
 use Rattle.mdb_core.specs.Stores.{DbState, Keeps}
-use Rattle.mdb_core.proofs.StoresKept.{applied, kept, recorded}
+use Rattle.mdb_core.proofs.StoresAfterCalls.{applied, kept, recorded}
 use Rattle.mdb_core.proofs.store.Db.apply.Goals as goal
 
 pub invariant_of-self-in-Ok-write_told : goal.invariant_of-self-in-Ok-write_told

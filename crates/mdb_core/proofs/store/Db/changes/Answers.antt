@@ -1,5 +1,5 @@
 use Rattle.history_model.specs.Between.{changes_between}
-use Rattle.change_history.specs.Told.{Tells}
+use Rattle.change_history.specs.ToldChanges.{Tells}
 use Rattle.mdb_core.proofs.HeldMaps.{said_of_held}
 use Rattle.mdb_core.proofs.store.Db.changes.Goals as goal
 

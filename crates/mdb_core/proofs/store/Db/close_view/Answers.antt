@@ -1,6 +1,6 @@
 use Rattle.std.proofs.Common.{subst, sym}
 use Rattle.mdb_core.specs.Stores.{DbState, Keeps}
-use Rattle.mdb_core.proofs.StoresKept.{kept, closed_or_not}
+use Rattle.mdb_core.proofs.StoresAfterCalls.{kept, closed_or_not}
 use Rattle.mdb_core.proofs.store.Db.close_view.Goals as goal
 
 pub invariant_of-self : goal.invariant_of-self

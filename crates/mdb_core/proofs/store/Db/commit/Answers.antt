@@ -5,7 +5,7 @@ use Rattle.history_model.specs.Changes.{deltas, weight}
 use Rattle.value_store.specs.Values.{Keeps as ValuesKeep}
 use Rattle.view_model.specs.Maps.{changes_of}
 use Rattle.mdb_core.specs.Stores.{DbState, Keeps}
-use Rattle.mdb_core.proofs.StoresKept.{taken, kept, recorded}
+use Rattle.mdb_core.proofs.StoresAfterCalls.{taken, kept, recorded}
 use Rattle.mdb_core.proofs.store.Db.commit.Goals as goal
 
 pub invariant_of-self : goal.invariant_of-self

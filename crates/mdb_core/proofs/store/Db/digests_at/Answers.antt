@@ -1,5 +1,5 @@
 use Rattle.std.proofs.Common.{ap, ◌∙◌}
-use Rattle.view_stack.specs.Told.{numbers}
+use Rattle.view_stack.specs.ViewAnswers.{numbers}
 use Rattle.mdb_core.proofs.Refusals.{chain_live}
 use Rattle.mdb_core.proofs.store.Db.digests_at.Goals as goal
 

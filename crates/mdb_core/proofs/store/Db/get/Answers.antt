@@ -3,8 +3,8 @@ use Rattle.std.specs.Prelude.{IfSome}
 use Rattle.std.specs.FinMap.{get, get-empty}
 use Rattle.base_model.specs.Bytes.{bytes_cmp}
 use Rattle.trie_model.specs.Maps.{Map}
-use Rattle.mdb_core.specs.Found.{map_found}
-use Rattle.mdb_core.proofs.KeptStores.{kept_speaks}
+use Rattle.mdb_core.specs.FoundMaps.{map_found}
+use Rattle.mdb_core.proofs.StoreFiles.{kept_speaks}
 use Rattle.mdb_core.proofs.store.Db.get.Goals as goal
 
 pub returns-in-Ok-Empty-clause-value : goal.returns-in-Ok-Empty-clause-value

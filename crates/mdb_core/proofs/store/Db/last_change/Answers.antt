@@ -3,7 +3,7 @@ use Rattle.std.specs.FinMap.{get}
 use Rattle.view_model.specs.Forest.{Live, state}
 use Rattle.view_model.specs.Maps.{changes_of, laid}
 use Rattle.view_stack.specs.declared.state.ViewId.{ViewId}
-use Rattle.view_stack.specs.Told.{numbers}
+use Rattle.view_stack.specs.ViewAnswers.{numbers}
 use Rattle.mdb_core.specs.Stores.{DbState}
 use Rattle.mdb_core.proofs.BatchLookups.{live_at, told_by}
 use Rattle.mdb_core.proofs.store.Db.last_change.Goals as goal

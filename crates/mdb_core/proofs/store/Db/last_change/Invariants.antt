@@ -2,7 +2,7 @@ use Rattle.std.proofs.Common.{◌≡◌, ◌≤◌, take, length}
 use Rattle.std.specs.FinMap as map_of
 use Rattle.trie_model.specs.Maps.{Map}
 use Rattle.view_model.specs.Maps.{laid}
-use Rattle.view_stack.specs.Told.{numbers}
+use Rattle.view_stack.specs.ViewAnswers.{numbers}
 use Rattle.mdb_core.proofs.store.Db.last_change.Given as goal
 
 abbrev pub invariant-loop-left : goal.invariant-loop-left

@@ -6,7 +6,7 @@ use Rattle.view_model.specs.Forest.{Live, state}
 use Rattle.view_model.specs.Maps.{changes_of, laid}
 use Rattle.view_model.specs.Standing.{AreLive}
 use Rattle.view_stack.specs.declared.state.ViewId.{ViewId}
-use Rattle.view_stack.specs.Told.{numbers}
+use Rattle.view_stack.specs.ViewAnswers.{numbers}
 use Rattle.mdb_core.specs.Stores.{DbState}
 use Rattle.mdb_core.proofs.store.Db.lay_all.Goals as goal
 

@@ -2,7 +2,7 @@ use Rattle.std.proofs.Common.{◌≡◌, drop}
 use Rattle.trie_model.specs.Maps.{Map, map_digests}
 use Rattle.view_model.specs.Maps.{laid}
 use Rattle.view_model.specs.Standing.{AreLive}
-use Rattle.view_stack.specs.Told.{numbers}
+use Rattle.view_stack.specs.ViewAnswers.{numbers}
 use Rattle.node_table.specs.Pairs.{AreShort}
 use Rattle.mdb_core.specs.Stores.{keys_of}
 use Rattle.mdb_core.proofs.store.Db.lay_all.Given as goal

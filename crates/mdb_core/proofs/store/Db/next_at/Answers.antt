@@ -1,8 +1,8 @@
 use Rattle.std.proofs.Common.{◌≡◌, ap, sym, ◌∙◌, subst, IfOk, option_map}
 use Rattle.trie_items.specs.Sources.{next_key}
 use Rattle.mdb_core.specs.Stores.{DbState, keys_of}
-use Rattle.mdb_core.specs.Proposed.{ProposalState, PastState}
-use Rattle.mdb_core.specs.Tidy.{tidy}
+use Rattle.mdb_core.specs.SpotParts.{ProposalState, PastState}
+use Rattle.mdb_core.specs.TidyKeys.{tidy}
 use Rattle.mdb_core.specs.Spots.{keys_at}
 use Rattle.mdb_core.proofs.EmptyMaps.{tidy-digests}
 use Rattle.mdb_core.proofs.store.Db.next_at.Goals as goal

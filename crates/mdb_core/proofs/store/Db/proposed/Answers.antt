@@ -5,7 +5,7 @@ use Rattle.view_model.specs.Forest.{path_of}
 use Rattle.view_model.specs.Maps.{laid}
 use Rattle.view_model.specs.Standing.{AreLive}
 use Rattle.view_model.proofs.ViewMaps.{chain}
-use Rattle.view_stack.specs.Told.{numbers}
+use Rattle.view_stack.specs.ViewAnswers.{numbers}
 use Rattle.mdb_core.specs.Stores.{DbState}
 use Rattle.mdb_core.proofs.Refusals.{chain_forest}
 use Rattle.mdb_core.proofs.store.Db.proposed.Goals as goal

@@ -1,8 +1,8 @@
 use Rattle.std.proofs.Common.{ap, sym, ◌∙◌, subst, ◌++◌, ◌∷◌, []}
 use Rattle.view_model.proofs.Forests.{parent_passed}
-use Rattle.view_stack.specs.Told.{number_in}
+use Rattle.view_stack.specs.ViewAnswers.{number_in}
 use Rattle.mdb_core.specs.Stores.{DbState, Keeps}
-use Rattle.mdb_core.proofs.StoresKept.{proposed, kept, root_at-made}
+use Rattle.mdb_core.proofs.StoresAfterCalls.{proposed, kept, root_at-made}
 use Rattle.mdb_core.proofs.store.Db.view.Goals as goal
 
 pub invariant_of-self-in-Ok-make : goal.invariant_of-self-in-Ok-make

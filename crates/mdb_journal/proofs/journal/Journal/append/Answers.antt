@@ -2,10 +2,10 @@ use Rattle.std.proofs.Common.{[], ◌∷◌, ◌++◌, sym, subst}
 use Rattle.disk_model.specs.Moments.{Meanwhile}
 use Rattle.disk_model.proofs.Meanwhile.{weaker}
 use Rattle.disk_model.proofs.Telling.{contents_too}
-use Rattle.mdb_journal.proofs.Opened.{all_synced, synced_leave, known_hold}
+use Rattle.mdb_journal.proofs.OpenedFiles.{all_synced, synced_leave, known_hold}
 use Rattle.mdb_journal.specs.Journal.{Knows, record_in}
-use Rattle.mdb_journal.specs.Moves.{HoldEither}
-use Rattle.mdb_journal.proofs.Appending.{holds_either, known}
+use Rattle.mdb_journal.specs.DiskMoves.{HoldEither}
+use Rattle.mdb_journal.proofs.AppendCrashes.{holds_either, known}
 use Rattle.mdb_journal.proofs.journal.Journal.append.Goals as goal
 
 pub returns-in_default-clause-meanwhile : goal.returns-in_default-clause-meanwhile

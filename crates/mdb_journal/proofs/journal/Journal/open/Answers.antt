@@ -7,7 +7,7 @@ use Rattle.mdb_journal.specs.FirstHeader.{BothClosed, first_header}
 use Rattle.mdb_journal.specs.Journal.{Knows}
 use Rattle.mdb_journal.specs.Opening.{IsOpened}
 use Rattle.mdb_journal.proofs.NeverDamaged.{sound_fault}
-use Rattle.mdb_journal.proofs.Opened.{known_records, no_records, both_closed, first_known, first_opened, first_opens, still_synced, synced_leave, known_hold}
+use Rattle.mdb_journal.proofs.OpenedFiles.{known_records, no_records, both_closed, first_known, first_opened, first_opens, still_synced, synced_leave, known_hold}
 use Rattle.mdb_journal.proofs.journal.Journal.open.Goals as goal
 
 pub returns-in-Ok-Some-clause-records : goal.returns-in-Ok-Some-clause-records

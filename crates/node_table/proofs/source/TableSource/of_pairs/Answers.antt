@@ -1,6 +1,6 @@
 use Rattle.std.proofs.Common.{None, sym, ap, ◌∙◌, subst}
 use Rattle.bit_keys.specs.Branch.{width_of}
-use Rattle.map_root.specs.Built.{pair_items}
+use Rattle.map_root.specs.BuilderPairs.{pair_items}
 use Rattle.trie_items.specs.Sources.{AreAscending}
 use Rattle.node_table.specs.Pairs.{are_good, keys_of}
 use Rattle.node_table.proofs.KeysInOrder.{good_keys, keys_pass}

@@ -1,7 +1,7 @@
 use Rattle.std.proofs.Common.{sym, subst}
 use Rattle.trie_model.specs.Laws.{AreStored}
 use Rattle.bit_keys.specs.Branch.{width_of}
-use Rattle.map_root.specs.Built.{pair_items}
+use Rattle.map_root.specs.BuilderPairs.{pair_items}
 use Rattle.node_table.proofs.RowsByKey.{table_rises}
 use Rattle.node_table.proofs.table.NodeTable.of_builder.Goals as goal
 

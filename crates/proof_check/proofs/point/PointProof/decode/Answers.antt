@@ -1,5 +1,5 @@
 use Rattle.std.proofs.Common.{arith}
-use Rattle.proof_check.proofs.Whole.{is_found, has_nodes, is_given}
+use Rattle.proof_check.proofs.WholePoints.{is_found, has_nodes, is_given}
 use Rattle.proof_check.proofs.point.PointProof.decode.Goals as goal
 
 pub returns-clause-found : goal.returns-clause-found

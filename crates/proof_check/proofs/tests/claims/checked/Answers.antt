@@ -4,7 +4,7 @@ use Rattle.trie_model.specs.Maps.{limits}
 use Rattle.range_model.specs.Ranges.{IsRange}
 use Rattle.proof_model.specs.Paths.{IsProofNode}
 use Rattle.proof_model.specs.Proofs.{PointProof}
-use Rattle.proof_check.proofs.Gathered.{All-append}
+use Rattle.proof_check.proofs.ClaimItems.{All-append}
 use Rattle.proof_check.proofs.tests.claims.checked.Goals as goal
 
 pub verdict-requires-clause-claim : goal.verdict-requires-clause-claim

@@ -1,6 +1,6 @@
 use Rattle.std.proofs.Common.{◌≡◌, List, ◌∷◌, ◌++◌, map, ap, sym, ◌∙◌}
 use Rattle.batch_model.specs.Batch.{Change}
-use Rattle.script_run.specs.Waiting.{waiting}
+use Rattle.script_run.specs.PendingChange.{waiting}
 use Rattle.script_run.proofs.WaitingChanges.{Entry, next_is_last}
 use Rattle.script_run.proofs.pending.Pending.into_batch.Goals as goal
 

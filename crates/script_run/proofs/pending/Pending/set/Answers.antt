@@ -1,6 +1,6 @@
 use Rattle.std.proofs.Common.{ap, ◌∙◌, map, List}
 use Rattle.batch_model.specs.Batch.{Change, set_change}
-use Rattle.script_run.specs.Waiting.{waiting}
+use Rattle.script_run.specs.PendingChange.{waiting}
 use Rattle.script_run.proofs.WaitingChanges.{waiting-insert_entry}
 use Rattle.script_run.proofs.pending.Pending.set.Goals as goal
 

@@ -3,7 +3,7 @@ use Rattle.std.proofs.lemmas.List.{map-append}
 use Rattle.bit_keys.specs.Branch.{width_of}
 use Rattle.trie_model.specs.Items.{IsValid, IsWholeItem}
 use Rattle.trie_items.specs.Items.{item_of}
-use Rattle.trie_items.proofs.Ordered.{accepted, refused}
+use Rattle.trie_items.proofs.OrderedItems.{accepted, refused}
 use Rattle.trie_items.proofs.item_list.ItemList.push.Goals as goal
 
 pub returns-then-not-may_follow-clause-order : goal.returns-then-not-may_follow-clause-order

@@ -1,8 +1,8 @@
 use Rattle.std.proofs.Common.{◌≡◌, ◌≤◌, ◌+◌, min, length, sym, ap, ◌∙◌, subst, arith}
 use Rattle.mdb_base.specs.ReadNumbers.{seen}
 use Rattle.base_model.specs.ReadUvarint.{uvarint_at}
-use Rattle.value_store.specs.Pieces.{PieceState, IsPieceOf}
-use Rattle.value_store.specs.Reading.{Counted, payload_at}
+use Rattle.value_store.specs.PayloadPieces.{PieceState, IsPieceOf}
+use Rattle.value_store.specs.BatchReading.{Counted, payload_at}
 use Rattle.value_store.proofs.ReadBatches.{at_start, counted, uncounted}
 use Rattle.value_store.proofs.loader.Loader.begin.Goals as goal
 

@@ -3,7 +3,7 @@ use Rattle.disk_model.specs.Files.{Files}
 use Rattle.mdb_journal.specs.Journal.{JournalState}
 use Rattle.value_store.specs.Index.{Places}
 use Rattle.value_store.specs.declared.loader.BatchTrouble.TheVariants.{Outside as outside}
-use Rattle.value_store.specs.Reading.{Midway, Shows, changes_into, payload_at}
+use Rattle.value_store.specs.BatchReading.{Midway, Shows, changes_into, payload_at}
 use Rattle.value_store.proofs.ReadBatches.{started, no_number, wrong_changes, batch_read, bytes_left}
 use Rattle.value_store.proofs.loader.Loader.read_batch.Goals as goal
 

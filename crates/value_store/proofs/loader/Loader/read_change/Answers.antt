@@ -1,10 +1,10 @@
 use Rattle.std.proofs.Common.{◌≡◌, ◌≤◌, ◌+◌, ◌-◌, ℕ, min, length, drop, Some, sym, ap, ◌∙◌, subst, arith}
 use Rattle.std.specs.Prelude.{unwrap_or, IfSome}
 use Rattle.trie_model.specs.Maps.{limits}
-use Rattle.value_store.specs.Heads.{head_at}
+use Rattle.value_store.specs.ChangeHeads.{head_at}
 use Rattle.value_store.specs.Index.{AreInFile, IsInFile}
-use Rattle.value_store.specs.Pieces.{PieceState}
-use Rattle.value_store.specs.Reading.{laid, place_behind}
+use Rattle.value_store.specs.PayloadPieces.{PieceState}
+use Rattle.value_store.specs.BatchReading.{laid, place_behind}
 use Rattle.value_store.proofs.ReadBatches.{wrong_head, wrong_value, next_change, same_midway, in_file-laid, in_file-behind}
 use Rattle.value_store.proofs.loader.Loader.read_change.Goals as goal
 

@@ -1,7 +1,7 @@
 use Rattle.std.proofs.Common.{◌≡◌, ◌+◌, ◌-◌, ℕ, suc, List, sym, ap, ◌∙◌, subst, arith}
 use Rattle.disk_model.specs.Files.{Files}
 use Rattle.mdb_journal.specs.Journal.{JournalState}
-use Rattle.value_store.specs.Reading.{Midway}
+use Rattle.value_store.specs.BatchReading.{Midway}
 use Rattle.value_store.proofs.loader.Loader.read_changes.Goals as goal
 
 pub returns-in-Err-clause-outside : goal.returns-in-Err-clause-outside

@@ -5,7 +5,7 @@ use Rattle.trie_model.specs.Maps.{Map}
 use Rattle.batch_model.specs.Batch.{BatchFault}
 use Rattle.mdb_journal.specs.Opening.{Untouched}
 use Rattle.value_store.specs.Index.{AreInFile}
-use Rattle.value_store.specs.Reading.{Midway}
+use Rattle.value_store.specs.BatchReading.{Midway}
 use Rattle.value_store.proofs.loader.Loader.read_changes.Given as goal
 
 abbrev pub invariant-changes : goal.invariant-changes

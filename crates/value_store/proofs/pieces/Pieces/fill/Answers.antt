@@ -1,5 +1,5 @@
 use Rattle.std.proofs.Common.{drop, arith}
-use Rattle.value_store.proofs.AtOk.{on_ok}
+use Rattle.value_store.proofs.FactsAtOk.{on_ok}
 use Rattle.value_store.proofs.PieceRanges.{range-read}
 use Rattle.value_store.proofs.pieces.Pieces.fill.Goals as goal
 

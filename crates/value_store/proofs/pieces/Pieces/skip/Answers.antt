@@ -1,5 +1,5 @@
 use Rattle.std.proofs.Common.{◌≡◌, ◌+◌, ◌-◌, drop, slice_range, ap, ◌∙◌, arith}
-use Rattle.value_store.specs.Pieces.{PieceState}
+use Rattle.value_store.specs.PayloadPieces.{PieceState}
 use Rattle.value_store.proofs.PieceRanges.{range-later, range-past}
 use Rattle.value_store.proofs.pieces.Pieces.skip.Goals as goal
 use Rattle.value_store.proofs.pieces.Pieces.skip.Goals.{then-count-inside, else-count-inside}

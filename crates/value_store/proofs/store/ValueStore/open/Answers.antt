@@ -4,7 +4,7 @@ use Rattle.bit_keys.specs.Branch.{width_of}
 use Rattle.store_model.specs.Journal.{Hold}
 use Rattle.mdb_journal.specs.Journal.{JournalState}
 use Rattle.value_store.specs.Index.{AreInFile}
-use Rattle.value_store.specs.Reading.{Found}
+use Rattle.value_store.specs.BatchReading.{Found}
 use Rattle.value_store.proofs.RecordGates.{still_knows, still_file}
 use Rattle.value_store.proofs.OpenedStores.{were_held, opened_store, records_refused, no_memory_refused, still_stands, left_stands, opens_store}
 use Rattle.value_store.specs.declared.fault.ValueFault.TheVariants.{NoMemory}

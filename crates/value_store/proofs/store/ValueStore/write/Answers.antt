@@ -7,7 +7,7 @@ use Rattle.batch_model.specs.Batch.{Change, AreRising, batch_form, change_form, 
 use Rattle.mdb_journal.specs.Journal.{JournalState, payload_in}
 use Rattle.value_store.specs.Values.{ValueState, Keeps, broken}
 use Rattle.value_store.specs.Index.{Places, AreInFile}
-use Rattle.value_store.specs.Placing.{laid_all, HasRoom}
+use Rattle.value_store.specs.ValuePlaces.{laid_all, HasRoom}
 use Rattle.value_store.specs.Writes.{StandEither}
 use Rattle.value_store.proofs.IndexEntries.{same_places}
 use Rattle.value_store.proofs.PlacesAfter.{has_room, laid_all-with_room}

@@ -3,7 +3,7 @@ use Rattle.view_model.specs.Forest.{state, path_of}
 use Rattle.view_stack.specs.Links.{IsOpen}
 use Rattle.view_stack.specs.Paths.{tree_path}
 use Rattle.view_stack.specs.Forests.{StackState}
-use Rattle.view_stack.specs.Told.{numbers}
+use Rattle.view_stack.specs.ViewAnswers.{numbers}
 use Rattle.view_stack.proofs.Refusals.{live_in_tree, if_ok_weaker, chain_past}
 use Rattle.view_stack.proofs.stack.ViewStack.chain.Goals as goal
 

@@ -3,7 +3,7 @@ use Rattle.view_model.specs.Forest.{Forest}
 use Rattle.view_model.specs.Calls.{view_refused, closed}
 use Rattle.view_stack.specs.Forests.{StackState, forest_of}
 use Rattle.view_stack.proofs.Refusals.{ok_admits}
-use Rattle.view_stack.proofs.Closes.{forest_closed}
+use Rattle.view_stack.proofs.ClosedViews.{forest_closed}
 use Rattle.view_stack.proofs.Stacks.{stack_closed}
 use Rattle.view_stack.proofs.stack.ViewStack.close.Goals as goal
 

@@ -3,10 +3,10 @@ use Rattle.view_model.specs.Calls.{directed}
 use Rattle.view_stack.specs.declared.slot.Kept.TheVariants.{Committed}
 use Rattle.view_stack.specs.Slots.{TreeState}
 use Rattle.view_stack.specs.Forests.{StackState, IsStack, forest_of}
-use Rattle.view_stack.proofs.Held.{length-with_more}
-use Rattle.view_stack.proofs.Ended.{count_same}
+use Rattle.view_stack.proofs.WrittenViews.{length-with_more}
+use Rattle.view_stack.proofs.ManyViewsEnd.{count_same}
 use Rattle.view_stack.proofs.Forests.{count-forest}
-use Rattle.view_stack.proofs.Mores.{forest_direct}
+use Rattle.view_stack.proofs.ForestGrowth.{forest_direct}
 use Rattle.view_stack.proofs.Stacks.{stack_direct}
 use Rattle.view_stack.proofs.stack.ViewStack.direct.Goals as goal
 

@@ -6,11 +6,11 @@ use Rattle.view_stack.specs.Slots.{TreeState}
 use Rattle.view_stack.specs.Links.{IsOpen, IsSound}
 use Rattle.view_stack.specs.Paths.{tree_path}
 use Rattle.view_stack.specs.Forests.{StackState, IsTree, IsStack, forest_of}
-use Rattle.view_stack.specs.Told.{number_in}
-use Rattle.view_stack.proofs.Added.{added_is}
+use Rattle.view_stack.specs.ViewAnswers.{number_in}
+use Rattle.view_stack.proofs.AddedViews.{added_is}
 use Rattle.view_stack.proofs.Forests.{count-forest}
 use Rattle.view_stack.proofs.Refusals.{ok_admits, none_parts, within_limits}
-use Rattle.view_stack.proofs.Mores.{forest_made}
+use Rattle.view_stack.proofs.ForestGrowth.{forest_made}
 use Rattle.view_stack.proofs.Stacks.{tree_reserved, forest_reserved, stack_reserved, stack_made, went_well}
 use Rattle.view_stack.proofs.stack.ViewStack.make.Goals as goal
 

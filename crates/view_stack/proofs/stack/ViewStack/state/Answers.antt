@@ -2,7 +2,7 @@ use Rattle.std.proofs.Common.{ap, sym, ◌∙◌, Some, option_map}
 use Rattle.view_model.specs.Forest.{state}
 use Rattle.view_stack.specs.declared.slot.Slot.{Slot}
 use Rattle.view_stack.specs.Forests.{StackState, kept_state, forest_of}
-use Rattle.view_stack.specs.Told.{state_told}
+use Rattle.view_stack.specs.ViewAnswers.{state_told}
 use Rattle.view_stack.proofs.Forests.{state-forest, state-none}
 use Rattle.view_stack.proofs.stack.ViewStack.state.Goals as goal
 

@@ -1,5 +1,5 @@
 use Rattle.view_model.specs.Forest.{state}
-use Rattle.view_stack.proofs.Nexts.{live_told}
+use Rattle.view_stack.proofs.CommittableViews.{live_told}
 use Rattle.view_stack.proofs.tests.random.told.Goals as goal
 
 pub chain-requires : goal.chain-requires

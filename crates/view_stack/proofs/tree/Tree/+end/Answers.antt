@@ -1,8 +1,8 @@
 use Rattle.std.proofs.Common.{◌<◌, sym, ap, subst, arith}
 use Rattle.view_stack.specs.declared.slot.Slot.{Slot}
 use Rattle.view_stack.specs.Links.{IsOn}
-use Rattle.view_stack.proofs.Held.{live_has}
-use Rattle.view_stack.proofs.Ended.{marked_dead, ends_then, child_on, child_later, parent_stays, child_falls, over_on, over_same, over_itself, has_same, count_same}
+use Rattle.view_stack.proofs.WrittenViews.{live_has}
+use Rattle.view_stack.proofs.ManyViewsEnd.{marked_dead, ends_then, child_on, child_later, parent_stays, child_falls, over_on, over_same, over_itself, has_same, count_same}
 use Rattle.view_stack.proofs.tree.Tree.+end.Goals as goal
 
 pub slot-requires : goal.slot-requires

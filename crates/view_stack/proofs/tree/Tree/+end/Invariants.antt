@@ -1,7 +1,7 @@
 use Rattle.std.proofs.Common.{◌≡◌, true, ◌-◌, length}
 use Rattle.view_stack.specs.Tree.{slot_at, live_at, marked}
 use Rattle.view_stack.specs.Links.{IsSound}
-use Rattle.view_stack.specs.Ends.{Ends, IsOver}
+use Rattle.view_stack.specs.EndedViews.{Ends, IsOver}
 use Rattle.view_stack.proofs.tree.Tree.+end.Given as goal
 
 -- the views on it come after it

@@ -1,7 +1,7 @@
 use Rattle.std.proofs.Common.{◌≡◌, ◌≢◌, ◌∙◌, ap, length, arith}
 use Rattle.view_stack.specs.Slots.{TreeState}
 use Rattle.view_stack.specs.Tree.{Has, first_on}
-use Rattle.view_stack.proofs.Held.{live_has, open_within, length-with_first}
+use Rattle.view_stack.proofs.WrittenViews.{live_has, open_within, length-with_first}
 use Rattle.view_stack.proofs.tree.Tree.add.Goals as goal
 
 pub first_on-next-requires : goal.first_on-next-requires

@@ -1,7 +1,7 @@
 use Rattle.std.proofs.Common.{◌∙◌, sym}
 use Rattle.view_model.specs.Calls.{parent_refused, limit_passed}
 use Rattle.view_stack.specs.Forests.{forest_of}
-use Rattle.view_stack.specs.Told.{number_in}
+use Rattle.view_stack.specs.ViewAnswers.{number_in}
 use Rattle.view_stack.proofs.Refusals.{ok_admits, refused_by_limit}
 use Rattle.view_stack.proofs.tree.Tree.admit.Goals as goal
 

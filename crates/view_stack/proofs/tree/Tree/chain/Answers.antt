@@ -3,9 +3,9 @@ use Rattle.view_stack.specs.declared.slot.Slot.{Slot}
 use Rattle.view_stack.specs.Slots.{TreeState}
 use Rattle.view_stack.specs.Links.{parent_at, IsOpen}
 use Rattle.view_stack.specs.Paths.{tree_path}
-use Rattle.view_stack.specs.Told.{numbers}
+use Rattle.view_stack.specs.ViewAnswers.{numbers}
 use Rattle.view_stack.proofs.Paths.{down}
-use Rattle.view_stack.proofs.Chains.{gathered, numbers-reverse}
+use Rattle.view_stack.proofs.ChainNumbers.{gathered, numbers-reverse}
 use Rattle.view_stack.proofs.tree.Tree.chain.Goals as goal
 
 pub loop-at-preserved : goal.loop-at-preserved

@@ -2,7 +2,7 @@ use Rattle.std.proofs.Common.{◌≡◌, ◌++◌}
 use Rattle.std.specs.Prelude.{reverse}
 use Rattle.view_stack.specs.Links.{IsOpen}
 use Rattle.view_stack.specs.Paths.{tree_path}
-use Rattle.view_stack.specs.Told.{numbers}
+use Rattle.view_stack.specs.ViewAnswers.{numbers}
 use Rattle.view_stack.proofs.tree.Tree.chain.Given as goal
 
 abbrev pub invariant-loop-at : goal.invariant-loop-at

@@ -1,8 +1,8 @@
 use Rattle.std.proofs.Common.{◌≡◌, ◌∙◌, sym, ap, refl, subst}
 use Rattle.view_stack.specs.Slots.{TreeState}
 use Rattle.view_stack.specs.Tree.{live_at}
-use Rattle.view_stack.specs.Ends.{Ends, IsOver}
-use Rattle.view_stack.proofs.Ended.{ends_then}
+use Rattle.view_stack.specs.EndedViews.{Ends, IsOver}
+use Rattle.view_stack.proofs.ManyViewsEnd.{ends_then}
 use Rattle.view_stack.proofs.Siblings.{top_on, some_stays, beside_some, top_falls}
 use Rattle.view_stack.proofs.tree.Tree.end_above.Goals as goal
 

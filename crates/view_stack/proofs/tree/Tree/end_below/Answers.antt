@@ -1,7 +1,7 @@
 use Rattle.std.proofs.Common.{◌<◌, inr, ◌∙◌, sym, ap, refl, subst}
 use Rattle.view_stack.specs.declared.slot.Slot.{Slot}
-use Rattle.view_stack.proofs.Held.{live_has}
-use Rattle.view_stack.proofs.Ended.{ends_then, has_same}
+use Rattle.view_stack.proofs.WrittenViews.{live_has}
+use Rattle.view_stack.proofs.ManyViewsEnd.{ends_then, has_same}
 use Rattle.view_stack.proofs.Siblings.{next_on, on_stays, beside_some, top_stays, next_falls}
 use Rattle.view_stack.proofs.tree.Tree.end_below.Goals as goal
 

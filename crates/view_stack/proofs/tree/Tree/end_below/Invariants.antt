@@ -1,7 +1,7 @@
 use Rattle.std.proofs.Common.{◌≡◌, false}
 use Rattle.view_stack.specs.Tree.{marked}
 use Rattle.view_stack.specs.Links.{IsSound, IsOn, next_at}
-use Rattle.view_stack.specs.Ends.{Ends, IsBeside}
+use Rattle.view_stack.specs.EndedViews.{Ends, IsBeside}
 use Rattle.view_stack.proofs.tree.Tree.end_below.Given as goal
 
 abbrev pub invariant-loop-next : goal.invariant-loop-next

@@ -2,10 +2,10 @@ use Rattle.std.proofs.Common.{◌≡◌, ◌≤◌, ◌∙◌, sym, ap, subst}
 use Rattle.view_stack.specs.Slots.{TreeState}
 use Rattle.view_stack.specs.Tree.{Has, kept_at, kept_weight, let_go, marked, unlinked, live_at, is_live_kept}
 use Rattle.view_stack.specs.Links.{IsSound}
-use Rattle.view_stack.specs.Ends.{Ends}
-use Rattle.view_stack.proofs.Ended.{marked_dead}
-use Rattle.view_stack.proofs.TakenOut.{taken_out}
-use Rattle.view_stack.proofs.EndedOne.{has_unlinked, kept_within, weighs-unlinked, sound_without, ends_one}
+use Rattle.view_stack.specs.EndedViews.{Ends}
+use Rattle.view_stack.proofs.ManyViewsEnd.{marked_dead}
+use Rattle.view_stack.proofs.LinksAfterRemoval.{taken_out}
+use Rattle.view_stack.proofs.OneViewEnds.{has_unlinked, kept_within, weighs-unlinked, sound_without, ends_one}
 use Rattle.view_stack.proofs.tree.Tree.end_one.Goals as goal
 
 pub let_go-requires-clause-has : goal.let_go-requires-clause-has

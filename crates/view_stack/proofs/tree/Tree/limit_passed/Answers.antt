@@ -1,6 +1,6 @@
 use Rattle.std.proofs.Common.{◌≡◌, sym, ap, arith, option_map}
 use Rattle.view_stack.specs.Slots.{TreeState}
-use Rattle.view_stack.specs.Told.{fault_told}
+use Rattle.view_stack.specs.ViewAnswers.{fault_told}
 use Rattle.view_stack.proofs.Forests.{weight-forest}
 use Rattle.view_stack.proofs.Refusals.{told_too_many, told_too_deep, told_too_heavy, told_nothing, new_depth-walked}
 use Rattle.view_stack.proofs.tree.Tree.limit_passed.Goals as goal

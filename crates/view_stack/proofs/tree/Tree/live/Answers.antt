@@ -4,7 +4,7 @@ use Rattle.view_stack.specs.declared.slot.Slot.{Slot}
 use Rattle.view_stack.specs.declared.fault.ViewFault.TheVariants.{NotLive}
 use Rattle.view_stack.specs.Tree.{kept_at}
 use Rattle.view_stack.specs.Forests.{kept_state, forest_of}
-use Rattle.view_stack.specs.Told.{state_told}
+use Rattle.view_stack.specs.ViewAnswers.{state_told}
 use Rattle.view_stack.proofs.Refusals.{match_some, match_none, view_refused-none, view_refused-kept, kept_live, refused_dead}
 use Rattle.view_stack.proofs.tree.Tree.live.Goals as goal
 

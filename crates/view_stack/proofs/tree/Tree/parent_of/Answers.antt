@@ -7,7 +7,7 @@ use Rattle.view_stack.specs.Slots.{TreeState}
 use Rattle.view_stack.specs.Links.{IsOpen}
 use Rattle.view_stack.specs.Paths.{tree_path}
 use Rattle.view_stack.specs.Forests.{forest_of}
-use Rattle.view_stack.specs.Told.{number_in, fault_told}
+use Rattle.view_stack.specs.ViewAnswers.{number_in, fault_told}
 use Rattle.view_stack.proofs.Refusals.{match_weaker, ok_weaker, parent_store, parent_live}
 use Rattle.view_stack.proofs.tree.Tree.parent_of.Goals as goal
 

@@ -1,5 +1,5 @@
-use Rattle.view_stack.proofs.Held.{live_has}
-use Rattle.view_stack.proofs.EndedOne.{kept_within}
+use Rattle.view_stack.proofs.WrittenViews.{live_has}
+use Rattle.view_stack.proofs.OneViewEnds.{kept_within}
 use Rattle.view_stack.proofs.tree.Tree.take.Goals as goal
 
 pub slot-requires : goal.slot-requires

@@ -2,7 +2,7 @@ use Rattle.std.proofs.Common.{◌≡◌, ◌≤◌, ◌∙◌, sym, ap, length, 
 use Rattle.view_stack.specs.declared.slot.Slot.{Slot}
 use Rattle.view_stack.specs.Slots.{TreeState}
 use Rattle.view_stack.specs.Tree.{Has, slot_at}
-use Rattle.view_stack.proofs.Held.{live_has, open_within, length-with_first, length-with_slot}
+use Rattle.view_stack.proofs.WrittenViews.{live_has, open_within, length-with_first, length-with_slot}
 use Rattle.view_stack.proofs.tree.Tree.unlink.Goals as goal
 use Rattle.view_stack.proofs.tree.Tree.unlink.Goals.{then-prev-eq0, else-prev-eq0}
 
