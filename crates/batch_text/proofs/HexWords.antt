@@ -14,8 +14,8 @@ use Rattle.hex.proofs.HexLemmas.{decode_of-even, decode_of-odd, decode_of-ok, de
 use Rattle.text_model.specs.Words.{hex_word}
 use Rattle.text_model.specs.LineKind.{LineKind, Hex}
 use Rattle.text_model.specs.ReadLine.{at_most}
-use Rattle.batch_text.specs.declared.line.LineKind.{LineKind as ReadKind}
-use Rattle.batch_text.specs.declared.line.LineKind.TheVariants as read_kind
+use Rattle.batch_text.specs.declared.line_kind.LineKind.{LineKind as ReadKind}
+use Rattle.batch_text.specs.declared.line_kind.LineKind.TheVariants as read_kind
 use Rattle.batch_text.specs.SeenLine.{seen_kind, IsFaultOf}
 
 pair_refused : (digits bytes : List ℕ) (i : ℕ) (pair : Result ℕ FromHexError) → length digits % 2 ≡ 0 → 2 * i + 1 < length digits

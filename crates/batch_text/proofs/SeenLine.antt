@@ -1,8 +1,8 @@
 -- What was read of a line, against what is meant.
 use Rattle.std.proofs.Common.{◌≡◌, false, refl}
 use Rattle.std.specs.Prelude.{Result, is_ok}
-use Rattle.batch_text.specs.declared.line.LineKind.{LineKind as ReadKind}
-use Rattle.batch_text.specs.declared.line.LineKind.TheVariants as read_kind
+use Rattle.batch_text.specs.declared.line_kind.LineKind.{LineKind as ReadKind}
+use Rattle.batch_text.specs.declared.line_kind.LineKind.TheVariants as read_kind
 use Rattle.base_model.specs.Fields.{◌>>=◌}
 use Rattle.text_model.specs.LineKind.{LineKind}
 use Rattle.batch_text.specs.SeenLine.{IsFaultOf}

@@ -2,8 +2,8 @@
 use Rattle.std.specs.Prelude.{◌≡◌, Option, Some, None, IfSome, Result, Ok, Err}
 use Rattle.batch_text.specs.declared.line.InputKind.{InputKind as ReadInput}
 use Rattle.batch_text.specs.declared.line.InputKind.TheVariants.{Batch as ReadBatch, Script as ReadScript, Verify as ReadVerify}
-use Rattle.batch_text.specs.declared.line.LineKind.{LineKind as ReadKind}
-use Rattle.batch_text.specs.declared.line.LineKind.TheVariants as read_kind
+use Rattle.batch_text.specs.declared.line_kind.LineKind.{LineKind as ReadKind}
+use Rattle.batch_text.specs.declared.line_kind.LineKind.TheVariants as read_kind
 use Rattle.batch_text.specs.declared.line.Line.{Line as ReadLine}
 use Rattle.batch_text.specs.declared.line.Line.TheVariants as read
 use Rattle.batch_text.specs.declared.number_words.PlaceWord.{PlaceWord as ReadPlace}

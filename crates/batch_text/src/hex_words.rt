@@ -10,7 +10,8 @@ ghost use Rattle.text_model.specs.ReadLine.{at_most, key_word, value_word};
 ghost use Rattle.batch_text.specs.SeenLine.{IsRead};
 
 use crate::digits::{are_digits, read_digits};
-use crate::line::{KeyBytes, LineKind};
+use crate::key_bytes::KeyBytes;
+use crate::line_kind::LineKind;
 use smallvec::SmallVec;
 use std::alloc::Global;
 use std::marker::Model;

@@ -8,7 +8,9 @@
 
 mod digits;
 mod hex_words;
+mod key_bytes;
 mod line;
+mod line_kind;
 mod number_words;
 mod range_words;
 mod reader;
@@ -16,7 +18,9 @@ mod root_words;
 mod words;
 
 pub use hex_words::{KeyWord, read_key_word};
-pub use line::{InputKind, KeyBytes, Line, LineFault, LineKind, read_line};
+pub use key_bytes::KeyBytes;
+pub use line::{InputKind, Line, LineFault, read_line};
+pub use line_kind::LineKind;
 pub use number_words::{PlaceWord, read_bytes_word, read_number_word, read_pairs_word};
 pub use range_words::{BoundWord, RangeWord, read_bound_word};
 pub use reader::{LineReader, ReaderFault};

@@ -8,19 +8,17 @@ ghost use Rattle.text_model.specs.Words.{PlaceWord as PlaceOf, words_of, range_b
 ghost use Rattle.batch_text.specs.SeenLine.{seen_input, seen_place, seen_line, IsFaultOf, IsRead};
 
 use crate::hex_words::{read_hex, read_key, read_value};
+use crate::key_bytes::KeyBytes;
+use crate::line_kind::LineKind;
 use crate::number_words::{PlaceWord, read_bytes_word, read_number, read_pairs_word, read_place};
 use crate::range_words::{BoundWord, RangeWord, read_bound};
 use crate::root_words::{RootWord, read_plain_root, read_root};
 use crate::words::{five_words, four_words, next_word, only_word, six_words, two_words};
 use bit_keys::{Id, Range};
-use smallvec::SmallVec;
 use std::alloc::Global;
 
 /// The most bytes that a line may have, without its end.
 pub(crate) const LINE_LIMIT: usize = 20_000_000;
-
-/// The bytes of a key: up to 32 of them stand in place, so that an ordered map finds its keys beside one another.
-pub type KeyBytes = SmallVec<u8, 32>;
 
 /// Which lines an input may have.
 #[derive(Clone, Copy, Debug, PartialEq, Eq)]
@@ -32,35 +30,6 @@ pub enum InputKind {
     Script,
     /// `point ROOT KEY HEX`, `range ROOT START END HEX` and `changes ROOT START END HEX`.
     Verify,
-}
-
-/// Why a line is not understood: the first of these down to `Count`, then that of the leftmost word, and `Bounds` last.
-#[derive(Clone, Copy, Debug, PartialEq, Eq)]
-pub enum LineKind {
-    /// It has more than 20,000,000 bytes.
-    TooLong,
-    /// Its first word is none of its input's.
-    Word,
-    /// It has another number of words than its first word asks for.
-    Count,
-    /// A word that stands for bytes is not hexadecimal.
-    Hex,
-    /// A key has more than 256 bytes, or a bound of a range more than 257.
-    LongKey,
-    /// A value has more than 262,144 bytes.
-    LongValue,
-    /// A word that stands for a number is no decimal number of at most 64 bits, or asks for less or more of a range
-    /// than may be asked for.
-    Number,
-    /// A word that stands for the store or a view is neither `db` nor such a number.
-    Place,
-    /// A word that stands for a root is none: neither 64 hexadecimal digits nor, as its input has them, `empty`, `now`
-    /// or `~` with such a number.
-    Root,
-    /// The end of a range is below its start.
-    Bounds,
-    /// There was no memory.
-    NoMemory,
 }
 
 /// A line that was not read.

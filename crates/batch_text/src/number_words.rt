@@ -7,7 +7,7 @@ ghost use Rattle.text_model.specs.LineKind.{Number, Place};
 ghost use Rattle.text_model.specs.Words.{is_numeral as is_numeral_of, number_word, place_word, count_word, most_pairs, most_bytes};
 ghost use Rattle.batch_text.specs.SeenLine.{seen_place, IsRead};
 
-use crate::line::LineKind;
+use crate::line_kind::LineKind;
 
 /// The most pairs of a range that may be asked for.
 const MOST_PAIRS: u32 = 4_096;

@@ -8,7 +8,7 @@ ghost use Rattle.batch_text.specs.SeenLine.{IsRead};
 ghost use Rattle.batch_text.specs.BoundWords.{IsShort, IsBound};
 
 use crate::hex_words::read_short;
-use crate::line::LineKind;
+use crate::line_kind::LineKind;
 use bit_keys::{NoMemory, Range};
 use std::alloc::Global;
 use std::marker::Model;

@@ -6,7 +6,7 @@ ghost use Rattle.text_model.specs.Words.{id_word, back_word, root_word, plain_ro
 ghost use Rattle.batch_text.specs.SeenLine.{seen_root, IsRead};
 
 use crate::digits::read_digits;
-use crate::line::LineKind;
+use crate::line_kind::LineKind;
 use crate::number_words::read_number_word;
 use bit_keys::Id;
 

@@ -10,7 +10,7 @@ ghost use Rattle.value_store.specs.PairSinks.{TakesAll};
 ghost use Rattle.value_store.specs.Values.{is_next, next_of, last_of, pair_in};
 ghost use Rattle.value_store.specs.Index.{AreInFile, IsShort, up_to};
 
-use crate::reading::read_value;
+use crate::place_reading::read_value;
 use crate::{PairSink, Place, ValueFault};
 use disk_world::Disk;
 use mdb_base::NoMemory;

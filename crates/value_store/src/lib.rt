@@ -14,6 +14,7 @@ mod opening;
 mod pair_sink;
 mod pieces;
 mod place;
+mod place_reading;
 mod placing;
 mod reading;
 mod records;

@@ -1,5 +1,5 @@
 use Rattle.std.proofs.Common.{length, refl, arith}
-use Rattle.batch_text.specs.declared.line.LineKind.TheVariants.{LongKey as told_long}
+use Rattle.batch_text.specs.declared.line_kind.LineKind.TheVariants.{LongKey as told_long}
 use Rattle.text_model.specs.LineKind.{LongKey}
 use Rattle.batch_text.proofs.HexWords.{long_told}
 use Rattle.batch_text.proofs.hex_words.read_short.Goals as goal

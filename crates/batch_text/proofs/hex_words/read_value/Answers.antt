@@ -1,6 +1,6 @@
 use Rattle.std.proofs.Common.{refl, sym, subst, arith}
 use Rattle.batch_text.specs.declared.hex_words.TheConstants.{VALUE_LIMIT}
-use Rattle.batch_text.specs.declared.line.LineKind.TheVariants.{LongValue as told_long}
+use Rattle.batch_text.specs.declared.line_kind.LineKind.TheVariants.{LongValue as told_long}
 use Rattle.text_model.specs.LineKind.{LongValue}
 use Rattle.batch_text.specs.SeenLine.{IsRead}
 use Rattle.batch_text.proofs.HexWords.{long_told, fits_told}
