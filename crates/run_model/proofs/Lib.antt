@@ -3,5 +3,6 @@ pub mod WorkedRuns
 mod ReadRanges
 pub mod RangeWords
 pub mod VerifyLines
+pub mod StoredMaps
 pub mod ToldThings
 pub mod PrintedText

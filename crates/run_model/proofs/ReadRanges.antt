@@ -20,11 +20,11 @@ use Rattle.proof_model.specs.ChangeWire.{IsChangeProof, changes_form}
 
 -- ---- bytes in two parts
 
-front : (xs ys : List ℕ) → AreBytes (xs ++ ys) → AreBytes xs
+pub front : (xs ys : List ℕ) → AreBytes (xs ++ ys) → AreBytes xs
 front [] ys h = tt
 front (x ∷ xs) ys h = (h.0, front xs ys h.1)
 
-back : (xs ys : List ℕ) → AreBytes (xs ++ ys) → AreBytes ys
+pub back : (xs ys : List ℕ) → AreBytes (xs ++ ys) → AreBytes ys
 back [] ys h = h
 back (x ∷ xs) ys h = back xs ys h.1
 

@@ -165,7 +165,7 @@ module _ (sound : Sound) (w : ℕ) (ww : IsWidth w) (found : Result Map WhyNotOp
         is_there = l.1;
         proof = p.0;
         accepted = p.1;
-        is_true = λ m is_local is_map e. sound.changes limits w asked l.0 p.0 m ww within.range claim is_local is_map (ap (λ r. change_refusal w asked l.0 r p.0) e ∙ a.1);
+        is_true = λ is_local m is_map e. sound.changes limits w asked l.0 p.0 m ww within.range claim is_local is_map (ap (λ r. change_refusal w asked l.0 r p.0) e ∙ a.1);
       }
 
   true_line : (line : List ℕ) → is_ok (verdict w found line) ≡ true → IsTrueLine w found line

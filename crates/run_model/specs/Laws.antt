@@ -1,12 +1,14 @@
--- Laws of what the first bytes of an input decide, of what the lines of `verify` tell, and of what words ask for.
+-- Laws of what the first bytes of an input decide, of what the lines of `verify` tell, of what a store has, and of what words ask for.
 use Rattle.std.specs.Prelude.{◌≡◌, ℕ, List, ◌++◌, Some, None, Result, Ok}
 use Rattle.std.specs.List.{AllByRecursion}
 use Rattle.trie_model.specs.Bits.{IsWidth}
-use Rattle.trie_model.specs.Maps.{Map}
+use Rattle.disk_model.specs.Files.{Files, IsFile}
+use Rattle.trie_model.specs.Maps.{Map, Limits, IsMap}
 use Rattle.range_model.specs.Ranges.{Range as Bounds}
 use Rattle.text_model.specs.Laws.{IsAskedRange}
 use Rattle.text_model.specs.Lines.{AreWholeLines}
 use Rattle.text_model.specs.Words.{RootWord}
+use Rattle.store_model.specs.Journal.{Stands}
 use Rattle.store_model.specs.Refusals.{Refusal}
 use Rattle.run_model.specs.Command.{Range, Changes, job_of}
 use Rattle.run_model.specs.End.{End, Done}
@@ -39,6 +41,10 @@ PassedLinesAreTrue = (w : ℕ) (found : Result Map Refusal) (lines : List (List 
 -- whether lines ask for the store does not hang on what it is found to be
 abbrev pub StoreIsAskedAlike : Type 0
 StoreIsAskedAlike = (w : ℕ) (a b : Result Map Refusal) (lines : List (List ℕ)) → come_to_store w a lines ≡ come_to_store w b lines
+
+-- the map for which the files of a store stand is one of byte strings within the limits
+abbrev pub StoredMapsAreWithin : Type 0
+StoredMapsAreWithin = (l : Limits) (files : Files) (m : Map) → ((file : ℕ) → IsFile (files file)) → Stands l files m → IsMap l m
 
 -- what words ask for of a range, or of changes in one, is within the limits
 abbrev pub RangeWordsAreWithin : Type 0

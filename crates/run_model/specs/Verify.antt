@@ -169,7 +169,7 @@ IsTrueRange w want asked p = (m : Map) → IsMap limits m → root w m ≡ want 
 -- the changes of a proof lead the local map to every map with this root, up to where they reach, or SHA-256 is broken so
 abbrev pub IsTrueOfChanges : ℕ → List ℕ → Range → Map → ChangeProof → Type 0
 IsTrueOfChanges w want asked local p =
-    (m : Map) → IsMap limits local → IsMap limits m → root w m ≡ want
+    (m : Map) → IsMap limits m → root w m ≡ want
     → ChangeBreak w asked local p m ⊎ (pairs_in (after_batch local p.changes) (changes_reach asked p.cut p.changes) ≡ pairs_in m (changes_reach asked p.cut p.changes))
 
 -- a line tells of a proof that is accepted, and what this shows is so
@@ -184,10 +184,16 @@ pub record ShowsTrueRange (w : ℕ) (want : List ℕ) (asked : Range) (bytes : L
   pub accepted : range_checked limits w want asked bytes ≡ Ok proof
   pub is_true : IsTrueRange w want asked proof
 
--- so of a change proof, which is checked against the map that the store is found to have
+-- so of a change proof, which is checked against the map that the store is found to have, whatever that is
 pub record ShowsTrueChanges (w : ℕ) (found : Result Map Refusal) (want : List ℕ) (asked : Range) (bytes : List ℕ) : Type 0 where
   pub local : Map
   pub is_there : found ≡ Ok local
+  pub proof : ChangeProof
+  pub accepted : change_checked limits w want asked local bytes ≡ Ok proof
+  pub is_true : IsMap limits local → IsTrueOfChanges w want asked local proof
+
+-- so of one that is checked against the map of the store
+pub record ShowsChanges (w : ℕ) (local : Map) (want : List ℕ) (asked : Range) (bytes : List ℕ) : Type 0 where
   pub proof : ChangeProof
   pub accepted : change_checked limits w want asked local bytes ≡ Ok proof
   pub is_true : IsTrueOfChanges w want asked local proof
@@ -197,6 +203,10 @@ pub record IsTrueLine (w : ℕ) (found : Result Map Refusal) (line : List ℕ) :
   pub point : (want key bytes : List ℕ) → read_line Verify line ≡ Ok (Point want key bytes) → ShowsTruth w want key bytes
   pub range : (want : List ℕ) (asked : Range) (bytes : List ℕ) → read_line Verify line ≡ Ok (VerifyRange want asked bytes) → ShowsTrueRange w want asked bytes
   pub changes : (want : List ℕ) (asked : Range) (bytes : List ℕ) → read_line Verify line ≡ Ok (VerifyChanges want asked bytes) → ShowsTrueChanges w found want asked bytes
+
+-- whatever changes a line tells of, they are so of the map of the store
+abbrev pub IsTrueOfStore : ℕ → Map → List ℕ → Type 0
+IsTrueOfStore w local line = (want : List ℕ) (asked : Range) (bytes : List ℕ) → read_line Verify line ≡ Ok (VerifyChanges want asked bytes) → ShowsChanges w local want asked bytes
 
 -- ---- a run
 
@@ -214,6 +224,9 @@ pub record VerifyRuns (w : ℕ) (before after : Outside) (end : End) : Type 0 wh
   pub prefix : (found : Result Map Refusal) → IsFoundIfAsked w before found → PrintsPrefix (verify_outcome w found) before after
   -- and the lines that print it are true, each of them
   pub shown : (found : Result Map Refusal) → IfSome before.input.left (λ bytes. AllByRecursion (IsTrueLine w found) (passed w found (lines_within input_limit bytes)))
+  -- the map of a store is one of byte strings within the limits, and the lines on changes are true of it
+  pub within : OnMap w before.disk (λ m. IsMap limits m)
+  pub true_of_store : OnMap w before.disk (λ m. IfSome before.input.left (λ bytes. AllByRecursion (IsTrueOfStore w m) (passed w (Ok m) (lines_within input_limit bytes))))
   -- the input was read to its end
   pub done : end ≡ Done → AtEnd after.input.left
   -- where the input does not ask for the store, the disk is as it was, and did not fail

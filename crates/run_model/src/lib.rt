@@ -6,9 +6,10 @@
 //! worked values. Nothing here fails, and nothing here takes memory.
 #![tactic(auto)]
 
-ghost use Rattle.run_model.specs.Laws.{DecidedStays, UndecidedRootFinishes, DecidedVerifyStays, UndecidedVerifyFinishes, PassedLinesAreTrue, StoreIsAskedAlike, RangeWordsAreWithin};
+ghost use Rattle.run_model.specs.Laws.{DecidedStays, UndecidedRootFinishes, DecidedVerifyStays, UndecidedVerifyFinishes, PassedLinesAreTrue, StoreIsAskedAlike, StoredMapsAreWithin, RangeWordsAreWithin};
 ghost use Rattle.run_model.specs.Worked.{OnePairRuns, EmptyRuns, WrongWordRuns, WrongLineRuns, KeyLimitRuns, VerifyRuns, VerifyRangeRuns, VerifyChangesRuns, RangeRuns};
 
+use batch_model::read_batches_are_spelled;
 use proof_model::{
     accepted_changes_are_true, accepted_points_are_true, accepted_ranges_are_true,
     read_changes_are_spelled, read_points_are_spelled, read_ranges_are_spelled,
@@ -50,6 +51,13 @@ pub fn passed_lines_are_true()
 pub fn store_is_asked_alike()
     ensures { StoreIsAskedAlike }
 {}
+
+/// The map for which the files of a store stand is one of byte strings within the limits.
+pub fn stored_maps_are_within()
+    ensures { StoredMapsAreWithin }
+{
+    read_batches_are_spelled();
+}
 
 /// What words ask for of a range is within the limits.
 pub fn range_words_are_within()

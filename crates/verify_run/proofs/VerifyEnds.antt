@@ -7,7 +7,7 @@ use Rattle.std.proofs.lemmas.List.{take_all}
 use Rattle.base_model.specs.Faults.{Rose, TellsAlike}
 use Rattle.base_model.specs.Streams.{AtEnd, AppendsPrefix}
 use Rattle.trie_model.specs.Bits.{IsWidth}
-use Rattle.trie_model.specs.Maps.{Map, limits}
+use Rattle.trie_model.specs.Maps.{Map, IsMap, limits}
 use Rattle.text_model.specs.FirstBad.{first_told, first_bad}
 use Rattle.text_model.specs.Lines.{input_limit, settled_lines, lines_within}
 use Rattle.text_model.specs.Texts.{LimitKind, Input}
@@ -24,8 +24,9 @@ use Rattle.run_model.specs.Laws.{PassedLinesAreTrue}
 use Rattle.run_model.specs.Outcome.{CameTo}
 use Rattle.run_model.specs.OutsideThings.{DiskSeen, Outside, outside}
 use Rattle.run_model.specs.Runs.{SharedRuns}
-use Rattle.run_model.specs.Store.{IsFound, NeedsStore}
-use Rattle.run_model.specs.Verify.{Fault, NotUnderstood, Refused, Unopened, fault_end, verdict, asks_store, asks_on, end_unless, line_end, verify_decided, verify_outcome, IsFoundIfAsked, IsVerdict, VerifyRuns}
+use Rattle.run_model.specs.Store.{IsFound, NeedsStore, OnMap}
+use Rattle.run_model.specs.Verify.{Fault, NotUnderstood, Refused, Unopened, fault_end, verdict, asks_store, asks_on, end_unless, line_end, passed, verify_decided, verify_outcome, IsFoundIfAsked, IsVerdict, VerifyRuns}
+use Rattle.run_model.proofs.StoredMaps.{true_of_store}
 use Rattle.run_model.proofs.ToldThings.{where_told, always, rose_at_last}
 use Rattle.verify_run.specs.declared.end.VerifyEnd.{VerifyEnd}
 use Rattle.verify_run.specs.declared.end.VerifyEnd.TheVariants as ends
@@ -132,8 +133,8 @@ came_to w found before after end bytes f no_read no_write no_disk came = go f.ma
     go (inr (inr (inr (inl h)))) = absurd (no_disk h)
     go (inr (inr (inr (inr h)))) = inl h
 
-promises : (w : ℕ) → IsWidth w → PassedLinesAreTrue → (before after : Outside) (end : End) → Facts w before after end → Promises w before after end
-promises w ww true_lines before after end f = record {
+promises : (w : ℕ) → IsWidth w → PassedLinesAreTrue → (before after : Outside) (end : End) → OnMap w before.disk (λ m. IsMap limits m) → Facts w before after end → Promises w before after end
+promises w ww true_lines before after end stored f = record {
   shared = record {
     words = λ i. none_of end (λ e. e ≢ BadWords i) (not_words i) (λ is. cc is) (λ is. cc is) (λ is. cc is) (λ is. cc is) f.may;
     read = f.read;
@@ -151,6 +152,8 @@ promises w ww true_lines before after end f = record {
     came = λ is found fits. (where_told _ _ before.input.left (λ bytes e. e.ends) (f.came is found fits), where_told _ _ before.input.left (λ bytes e. e.text) (f.came is found fits));
     prefix = f.prefix;
     shown = λ found. always _ before.input.left (λ bytes. true_lines w found (lines_within input_limit bytes) ww);
+    within = stored;
+    true_of_store = λ m found. always _ before.input.left (λ bytes. true_of_store w m (passed w (Ok m) (lines_within input_limit bytes)) (stored m found) (true_lines w (Ok m) (lines_within input_limit bytes) ww));
     done = f.done;
     untouched = f.untouched;
     files = f.left.files;
@@ -209,7 +212,7 @@ pub record Known (w : ℕ) (disk : DiskSeen) (asked : Bool) (start : Option (Lis
   pub so_far : (found : Result Map Refusal) → IsFoundWhere asked w disk found → SoFar w found start n old left taken taken'
 
 module _ (w : ℕ) (ww : IsWidth w) (true_lines : PassedLinesAreTrue) (start left left' : Option (List ℕ)) (n : ℕ) (old : Stream) (taken taken' : Option (List ℕ)) (reads reads' writes : ℕ) (disk disk' : DiskSeen) (s : Option DbState)
-    (tells : TellsAlike start left) (within : Within start old left) (known : Known w disk (is_some s) start n old left taken taken') where
+    (tells : TellsAlike start left) (within : Within start old left) (known : Known w disk (is_some s) start n old left taken taken') (stored : OnMap w disk (λ m. IsMap limits m)) where
   -- where the lines asked for the store, and the input is one for which it is found to be this
   found_for : (asked : Bool) → (asked ≡ true → (found : Result Map Refusal) → Asks w found start) → (found : Result Map Refusal) → Fits w disk found start → (bytes : List ℕ) → start ≡ Some bytes → IsFoundWhere asked w disk found
   found_for asked asks found fits bytes is = λ was. at (λ b. asks_on w found b ≡ true → IsFound w disk found) start bytes is fits (at (λ b. asks_on w found b ≡ true) start bytes is (asks was found))
@@ -245,7 +248,7 @@ module _ (w : ℕ) (ww : IsWidth w) (true_lines : PassedLinesAreTrue) (start lef
   -- an end that lines come to
   by_verdict : IsKept → (writes' : ℕ) (end : End) → IsVerdict end → ((found : Result Map Refusal) → Fits w disk found start → EndsSo w found start taken taken' end) → ((why : Refusal) → end ≢ NotOpened why) → (end ≡ Done → AtEnd left')
       → ((kind : LimitKind) → end ≡ Limit kind → (kind ≡ Input) × IfSome start (λ bytes. input_limit < length bytes)) → Kept writes' taken' end
-  by_verdict kept writes' end is came opened done limit = promises w ww true_lines (outside start reads taken writes disk) (outside left' reads' taken' writes' disk') end (record {
+  by_verdict kept writes' end is came opened done limit = promises w ww true_lines (outside start reads taken writes disk) (outside left' reads' taken' writes' disk') end stored (record {
     may = inl is;
     came = λ h. came;
     prefix = printed_so_far;
@@ -275,7 +278,7 @@ module _ (w : ℕ) (ww : IsWidth w) (true_lines : PassedLinesAreTrue) (start lef
   -- at a fault of the reader
   pub reader_stops : IsKept → (writes' : ℕ) (fault : ReaderFault) → (fault ≡ LimitFault → Past old left) → (fault ≡ Overlong → BeginsOverlong old left) → (fault ≡ ReadFault → Rose reads reads')
       → (fault ≡ ReadFault → (found : Result Map Refusal) → IsFoundWhere (is_some s) w disk found → PassSoFar (passes w found) start left') → Kept writes' taken' (end_of (reader_end n fault))
-  reader_stops kept writes' ReadFault limit overlong rose undecided = promises w ww true_lines (outside start reads taken writes disk) (outside left' reads' taken' writes' disk') Read (record {
+  reader_stops kept writes' ReadFault limit overlong rose undecided = promises w ww true_lines (outside start reads taken writes disk) (outside left' reads' taken' writes' disk') Read stored (record {
     may = inr (inl refl);
     came = λ h. absurd (not_read h);
     prefix = printed_so_far;
@@ -293,7 +296,7 @@ module _ (w : ℕ) (ww : IsWidth w) (true_lines : PassedLinesAreTrue) (start lef
   reader_stops kept writes' Overlong limit overlong rose undecided =
       by_verdict kept writes' (BadLine n) (inr (inl (n, refl))) (λ found fits. by_done _ found fits (λ bytes l told is d. ends_overlong w found bytes n old l taken taken' d (subst (BeginsOverlong old) is (overlong refl)))) (λ why h. cc h) (λ h. absurd (cc h))
       (λ kind h. absurd (cc h))
-  reader_stops kept writes' NoMemoryOfReader limit overlong rose undecided = promises w ww true_lines (outside start reads taken writes disk) (outside left' reads' taken' writes' disk') NoMemory (record {
+  reader_stops kept writes' NoMemoryOfReader limit overlong rose undecided = promises w ww true_lines (outside start reads taken writes disk) (outside left' reads' taken' writes' disk') NoMemory stored (record {
     may = inr (inr (inr (inr refl)));
     came = λ h. absurd (not_memory h);
     prefix = printed_so_far;
@@ -338,7 +341,7 @@ module _ (w : ℕ) (ww : IsWidth w) (true_lines : PassedLinesAreTrue) (start lef
       -- what is known of an end of the line
       by_end : MayBe (end_of end) → end_of end ≢ Done → end_of end ≢ Read → ((kind : LimitKind) → end_of end ≢ Limit kind) → (end_of end ≡ Write → Rose writes writes')
           → (IsVerdict (end_of end) → (found : Result Map Refusal) → Fits w disk found start → EndsSo w found start taken last (end_of end)) → ((found : Result Map Refusal) → Fits w disk found start → PrintsFront w found start taken last) → Kept writes' last (end_of end)
-      by_end is done read limit write came prefix = promises w ww true_lines (outside start reads taken writes disk) (outside left' reads' last writes' disk') (end_of end) (record {
+      by_end is done read limit write came prefix = promises w ww true_lines (outside start reads taken writes disk) (outside left' reads' last writes' disk') (end_of end) stored (record {
         may = is;
         came = came;
         prefix = prefix;

@@ -17,7 +17,7 @@ use bit_keys::Branch;
 use disk_world::Disk;
 use mdb_base::{Sink, Source};
 use mdb_core::Db;
-use run_model::passed_lines_are_true;
+use run_model::{passed_lines_are_true, stored_maps_are_within};
 use std::alloc::Global;
 
 /// The most bytes of an input that are read.
@@ -42,6 +42,7 @@ fn check_lines<S: Source, K: Sink, D: Disk>(
     ensures works { result ≡ done → IfSome store.new (λ s. is_failed s ≡ false) }
 {
     passed_lines_are_true();
+    stored_maps_are_within();
     let mut reader = LineReader::new(alloc, INPUT_LIMIT);
     let mut number = 1u64;
     'lines: loop {

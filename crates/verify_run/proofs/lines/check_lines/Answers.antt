@@ -11,6 +11,7 @@ use Rattle.batch_text.proofs.UsedBytes.{none_used, line_used, good_so_far}
 use Rattle.text_model.specs.ReadLine.{Verify as proof_lines, read_line}
 use Rattle.run_model.specs.OutsideThings.{outside, disk_seen}
 use Rattle.run_model.specs.Verify.{Fault}
+use Rattle.run_model.proofs.StoredMaps.{map_on_disk}
 use Rattle.run_model.proofs.ToldThings.{rose_at_last}
 use Rattle.proof_check.proofs.WholePoints.{width_of-IsWidth}
 use Rattle.verify_run.specs.declared.end.VerifyEnd.TheVariants as ends
@@ -52,10 +53,11 @@ returns-in-Ok-false-clause-shared g c =
     let taken = g.K.Sink.taken in
     let writes = g.K.Sink.faults in
     let disk = g.D.Disk.words in
+    let stored = map_on_disk disk g.met.D.Disk.lawful c.stored_maps_are_within.ensures w c.args.disk.now in
     let end = c.in-Ok-false.ensures.end (ap (λ (b : Bool). Ok b) c.in-Ok-false.field-0-test) in
     let promises : Promises w (outside (left c.args.input.now) (reads c.args.input.now) (taken c.args.out.now) (writes c.args.out.now) (disk_seen disk c.args.disk.now)) (outside (left c.advance.new.input) (reads c.advance.new.input) (taken c.lines.out) (writes c.lines.out) (disk_seen disk c.lines.disk)) (end_of ends.Done) =
     at_end w (width_of-IsWidth c.args.branch) c.passed_lines_are_true.ensures (left c.args.input.now) (left c.lines.input) (left c.advance.new.input) c.lines.number c.lines.reader (taken c.args.out.now) (taken c.lines.out) (reads c.args.input.now) (reads c.advance.new.input) (writes c.args.out.now)
-    (disk_seen disk c.args.disk.now) (disk_seen disk c.lines.disk) c.lines.store k.tells k.within k.known k.local (writes c.lines.out) end.0 end.1 in
+    (disk_seen disk c.args.disk.now) (disk_seen disk c.lines.disk) c.lines.store k.tells k.within k.known stored k.local (writes c.lines.out) end.0 end.1 in
     promises.shared
 
 pub returns-in-Ok-false-clause-verify : goal.returns-in-Ok-false-clause-verify
@@ -67,10 +69,11 @@ returns-in-Ok-false-clause-verify g c =
     let taken = g.K.Sink.taken in
     let writes = g.K.Sink.faults in
     let disk = g.D.Disk.words in
+    let stored = map_on_disk disk g.met.D.Disk.lawful c.stored_maps_are_within.ensures w c.args.disk.now in
     let end = c.in-Ok-false.ensures.end (ap (λ (b : Bool). Ok b) c.in-Ok-false.field-0-test) in
     let promises : Promises w (outside (left c.args.input.now) (reads c.args.input.now) (taken c.args.out.now) (writes c.args.out.now) (disk_seen disk c.args.disk.now)) (outside (left c.advance.new.input) (reads c.advance.new.input) (taken c.lines.out) (writes c.lines.out) (disk_seen disk c.lines.disk)) (end_of ends.Done) =
     at_end w (width_of-IsWidth c.args.branch) c.passed_lines_are_true.ensures (left c.args.input.now) (left c.lines.input) (left c.advance.new.input) c.lines.number c.lines.reader (taken c.args.out.now) (taken c.lines.out) (reads c.args.input.now) (reads c.advance.new.input) (writes c.args.out.now)
-    (disk_seen disk c.args.disk.now) (disk_seen disk c.lines.disk) c.lines.store k.tells k.within k.known k.local (writes c.lines.out) end.0 end.1 in
+    (disk_seen disk c.args.disk.now) (disk_seen disk c.lines.disk) c.lines.store k.tells k.within k.known stored k.local (writes c.lines.out) end.0 end.1 in
     promises.verify
 
 pub returns-in-Err-clause-shared : goal.returns-in-Err-clause-shared
@@ -82,6 +85,7 @@ returns-in-Err-clause-shared g c =
     let taken = g.K.Sink.taken in
     let writes = g.K.Sink.faults in
     let disk = g.D.Disk.words in
+    let stored = map_on_disk disk g.met.D.Disk.lawful c.stored_maps_are_within.ensures w c.args.disk.now in
     let e = c.in-Err.ensures in
     let fault = c.in-Err.fault in
     let kept = e.kept (λ is. let no : ⊥ = cc is in no) in
@@ -89,7 +93,7 @@ returns-in-Err-clause-shared g c =
     let nothing : fault ≡ ReadFault → SettlesNothing c.lines.reader.allowed held = λ is. subst (λ (n : ℕ). SettlesNothing n held) kept.1 (e.undecided (ap (λ (f : ReaderFault). Err f) is)) in
     let promises : Promises w (outside (left c.args.input.now) (reads c.args.input.now) (taken c.args.out.now) (writes c.args.out.now) (disk_seen disk c.args.disk.now)) (outside (left c.advance.new.input) (reads c.advance.new.input) (taken c.lines.out) (writes c.lines.out) (disk_seen disk c.lines.disk)) (end_of (reader_end c.lines.number fault)) =
     reader_stops w (width_of-IsWidth c.args.branch) c.passed_lines_are_true.ensures (left c.args.input.now) (left c.lines.input) (left c.advance.new.input) c.lines.number c.lines.reader (taken c.args.out.now) (taken c.lines.out) (reads c.args.input.now) (reads c.advance.new.input) (writes c.args.out.now)
-    (disk_seen disk c.args.disk.now) (disk_seen disk c.lines.disk) c.lines.store k.tells k.within k.known k.local
+    (disk_seen disk c.args.disk.now) (disk_seen disk c.lines.disk) c.lines.store k.tells k.within k.known stored k.local
     (writes c.lines.out) fault (λ is. e.limit (ap (λ (f : ReaderFault). Err f) is)) (λ is. e.overlong (ap (λ (f : ReaderFault). Err f) is))
     (λ is. rose_at_last (reads c.args.input.now) (reads c.lines.input) (reads c.advance.new.input) k.reads (e.read (ap (λ (f : ReaderFault). Err f) is)))
     (λ is found fits. good_so_far (passes w found) (passes-RefusesOverlong w found) (left c.args.input.now) (left c.lines.input) (left c.advance.new.input) c.lines.reader held k.tells (k.used found fits) kept.0 (nothing is)) in
@@ -104,6 +108,7 @@ returns-in-Err-clause-verify g c =
     let taken = g.K.Sink.taken in
     let writes = g.K.Sink.faults in
     let disk = g.D.Disk.words in
+    let stored = map_on_disk disk g.met.D.Disk.lawful c.stored_maps_are_within.ensures w c.args.disk.now in
     let e = c.in-Err.ensures in
     let fault = c.in-Err.fault in
     let kept = e.kept (λ is. let no : ⊥ = cc is in no) in
@@ -111,7 +116,7 @@ returns-in-Err-clause-verify g c =
     let nothing : fault ≡ ReadFault → SettlesNothing c.lines.reader.allowed held = λ is. subst (λ (n : ℕ). SettlesNothing n held) kept.1 (e.undecided (ap (λ (f : ReaderFault). Err f) is)) in
     let promises : Promises w (outside (left c.args.input.now) (reads c.args.input.now) (taken c.args.out.now) (writes c.args.out.now) (disk_seen disk c.args.disk.now)) (outside (left c.advance.new.input) (reads c.advance.new.input) (taken c.lines.out) (writes c.lines.out) (disk_seen disk c.lines.disk)) (end_of (reader_end c.lines.number fault)) =
     reader_stops w (width_of-IsWidth c.args.branch) c.passed_lines_are_true.ensures (left c.args.input.now) (left c.lines.input) (left c.advance.new.input) c.lines.number c.lines.reader (taken c.args.out.now) (taken c.lines.out) (reads c.args.input.now) (reads c.advance.new.input) (writes c.args.out.now)
-    (disk_seen disk c.args.disk.now) (disk_seen disk c.lines.disk) c.lines.store k.tells k.within k.known k.local
+    (disk_seen disk c.args.disk.now) (disk_seen disk c.lines.disk) c.lines.store k.tells k.within k.known stored k.local
     (writes c.lines.out) fault (λ is. e.limit (ap (λ (f : ReaderFault). Err f) is)) (λ is. e.overlong (ap (λ (f : ReaderFault). Err f) is))
     (λ is. rose_at_last (reads c.args.input.now) (reads c.lines.input) (reads c.advance.new.input) k.reads (e.read (ap (λ (f : ReaderFault). Err f) is)))
     (λ is found fits. good_so_far (passes w found) (passes-RefusesOverlong w found) (left c.args.input.now) (left c.lines.input) (left c.advance.new.input) c.lines.reader held k.tells (k.used found fits) kept.0 (nothing is)) in
@@ -126,6 +131,7 @@ returns-in-Err-step-clause-shared g c =
     let taken = g.K.Sink.taken in
     let writes = g.K.Sink.faults in
     let disk = g.D.Disk.words in
+    let stored = map_on_disk disk g.met.D.Disk.lawful c.stored_maps_are_within.ensures w c.args.disk.now in
     let first = disk_seen disk c.args.disk.now in
     let last = disk_seen disk c.step.new.disk in
     let end = c.in-Err-step.end in
@@ -133,7 +139,7 @@ returns-in-Err-step-clause-shared g c =
     let stops = subst (λ (line : List ℕ). Stops w first last c.lines.store (read_line proof_lines line) (end_of end) (λ v. LineEnds c.lines.number v (taken c.lines.out) (taken c.step.new.out) (writes c.lines.out) (writes c.step.new.out) end)) c.line.ensures (c.in-Err-step.ensures.err first k.local) in
     let promises : Promises w (outside (left c.args.input.now) (reads c.args.input.now) (taken c.args.out.now) (writes c.args.out.now) first) (outside (left c.advance.new.input) (reads c.advance.new.input) (taken c.step.new.out) (writes c.step.new.out) last) (end_of end) =
     line_stops w (width_of-IsWidth c.args.branch) c.passed_lines_are_true.ensures (left c.args.input.now) (left c.lines.input) (left c.advance.new.input) c.lines.number c.lines.reader (taken c.args.out.now) (taken c.lines.out) (reads c.args.input.now) (reads c.advance.new.input) (writes c.args.out.now)
-    first last c.lines.store k.tells k.within k.known c.advance.new.self c.advance.ensures.tells (c.in-Ok-true.ensures.line given) end (taken c.step.new.out) (writes c.lines.out) (writes c.step.new.out) k.writes stops c.in-Err-step.ensures.may in
+    first last c.lines.store k.tells k.within k.known stored c.advance.new.self c.advance.ensures.tells (c.in-Ok-true.ensures.line given) end (taken c.step.new.out) (writes c.lines.out) (writes c.step.new.out) k.writes stops c.in-Err-step.ensures.may in
     promises.shared
 
 pub returns-in-Err-step-clause-verify : goal.returns-in-Err-step-clause-verify
@@ -145,6 +151,7 @@ returns-in-Err-step-clause-verify g c =
     let taken = g.K.Sink.taken in
     let writes = g.K.Sink.faults in
     let disk = g.D.Disk.words in
+    let stored = map_on_disk disk g.met.D.Disk.lawful c.stored_maps_are_within.ensures w c.args.disk.now in
     let first = disk_seen disk c.args.disk.now in
     let last = disk_seen disk c.step.new.disk in
     let end = c.in-Err-step.end in
@@ -152,7 +159,7 @@ returns-in-Err-step-clause-verify g c =
     let stops = subst (λ (line : List ℕ). Stops w first last c.lines.store (read_line proof_lines line) (end_of end) (λ v. LineEnds c.lines.number v (taken c.lines.out) (taken c.step.new.out) (writes c.lines.out) (writes c.step.new.out) end)) c.line.ensures (c.in-Err-step.ensures.err first k.local) in
     let promises : Promises w (outside (left c.args.input.now) (reads c.args.input.now) (taken c.args.out.now) (writes c.args.out.now) first) (outside (left c.advance.new.input) (reads c.advance.new.input) (taken c.step.new.out) (writes c.step.new.out) last) (end_of end) =
     line_stops w (width_of-IsWidth c.args.branch) c.passed_lines_are_true.ensures (left c.args.input.now) (left c.lines.input) (left c.advance.new.input) c.lines.number c.lines.reader (taken c.args.out.now) (taken c.lines.out) (reads c.args.input.now) (reads c.advance.new.input) (writes c.args.out.now)
-    first last c.lines.store k.tells k.within k.known c.advance.new.self c.advance.ensures.tells (c.in-Ok-true.ensures.line given) end (taken c.step.new.out) (writes c.lines.out) (writes c.step.new.out) k.writes stops c.in-Err-step.ensures.may in
+    first last c.lines.store k.tells k.within k.known stored c.advance.new.self c.advance.ensures.tells (c.in-Ok-true.ensures.line given) end (taken c.step.new.out) (writes c.lines.out) (writes c.step.new.out) k.writes stops c.in-Err-step.ensures.may in
     promises.verify
 
 pub lines-preserved : goal.lines-preserved
@@ -164,6 +171,7 @@ lines-preserved g c =
     let writes = g.K.Sink.faults in
     let w = width_of c.args.branch in
     let disk = g.D.Disk.words in
+    let stored = map_on_disk disk g.met.D.Disk.lawful c.stored_maps_are_within.ensures w c.args.disk.now in
     let first = disk_seen disk c.args.disk.now in
     let last = disk_seen disk c.step.new.disk in
     let new = c.advance.new.self in
@@ -178,7 +186,7 @@ lines-preserved g c =
       local = goes.local;
       known = record {
         asks = λ was. asks_now w (width_of-IsWidth c.args.branch) c.passed_lines_are_true.ensures (left c.args.input.now) (left c.lines.input) (left c.advance.new.input) c.lines.number c.lines.reader (taken c.args.out.now) (taken c.lines.out) (reads c.args.input.now) (reads c.advance.new.input) (writes c.args.out.now)
-            first last c.lines.store k.tells k.within k.known new c.advance.ensures.tells gives (sym goes.asked ∙ was);
+            first last c.lines.store k.tells k.within k.known stored new c.advance.ensures.tells gives (sym goes.asked ∙ was);
         so_far = λ found fits.
             let passed = goes.says found (λ asked. fits (goes.asked ∙ asked)) in
             goes_on w found (left c.args.input.now) (left c.lines.input) (left c.advance.new.input) c.lines.number c.lines.reader new (taken c.args.out.now) (taken c.lines.out) (taken c.step.new.out) passed.0 k.tells (k.known.so_far found (λ was. fits (before was))) gives passed.1 passed.2;
