@@ -1,8 +1,6 @@
-ghost use Rattle.std.specs.Prelude.{◌≡◌, ◌+◌, ◌≤◌, List, ◌∷◌, OnOk, OnErr, IfOk, reverse, length, drop, map};
+ghost use Rattle.std.specs.Prelude.{◌≡◌, ◌+◌, ◌≤◌, List, ◌∷◌, OnOk, OnErr, IfOk, reverse, length, drop};
 ghost use Rattle.trie_model.specs.StoredNode.{StoredChild};
-ghost use Rattle.trie_model.specs.Table.{Row, hashed_child, is_some, node_id as node_hash};
-ghost use Rattle.node_codec.specs.StoredNodes.{stored_children};
-ghost use Rattle.trie_items.specs.Children.{children_of};
+ghost use Rattle.trie_model.specs.Table.{Row, is_some, node_id as node_hash};
 ghost use Rattle.map_root.specs.KeptNodes.{IsRow, stored, hashed};
 
 use crate::nodes::ClosedNode;
@@ -11,7 +9,7 @@ use mdb_base::NoMemory;
 use node_codec::{Child, Node};
 use std::alloc::Global;
 use std::sync::ledger::Ledger;
-use trie_items::{ChildId, Steps, id_of};
+use trie_items::{ChildId, Steps, child_ids, id_of};
 
 /// Where finished nodes go, the one with the last key first, and what it wants to be kept of children.
 pub trait NodeSink {
@@ -46,20 +44,6 @@ pub trait NodeSink {
 
     fn take(&mut self, node: ClosedNode<Self::Child>) -> Result<(), NoMemory>
         ensures { OnOk result ((r : Row) (rows : List Row) → IsRow kept node r → holds self.old rows → holds self.new (r ∷ rows)) };
-}
-
-/// The children as their node's string has them.
-fn child_ids(alloc: Global, children: &[Child]) -> Result<Vec<ChildId>, NoMemory>
-    ensures { IfOk result (λ made. children_of made.items ≡ map hashed_child (stored_children children.now)) }
-{
-    let mut made = Vec::with_capacity(alloc, children.len())?;
-    for child in children {
-        made.push(ChildId {
-            index: child.index,
-            id: child.id,
-        })?;
-    }
-    Ok(made)
 }
 
 /// Keeps all nodes.

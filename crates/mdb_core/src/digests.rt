@@ -162,7 +162,7 @@ impl Digests {
         ensures { IfOk result (λ nodes. (m : Map) → self.now ≡ map_digests m → nodes ≡ table (width_of branch) m) }
     {
         let (_root, rows) = table_of_builder(alloc, self.builder(alloc, branch)?)?;
-        Ok(NodeTable::new(rows))
+        NodeTable::new(alloc, rows)
     }
 
     /// The least key at or above that one, or above it where `past`.

@@ -7,6 +7,7 @@ ghost use Rattle.trie_model.specs.Table.{table};
 ghost use Rattle.batch_model.specs.Batch.{after_batch};
 ghost use Rattle.view_model.specs.Forest.{Live, state};
 ghost use Rattle.view_model.specs.Maps.{view_map};
+ghost use Rattle.trie_items.specs.Shown.{shown_of};
 ghost use Rattle.trie_items.specs.Sources.{HasReason, first_key, next_key, row_of};
 ghost use Rattle.mdb_journal.specs.Opening.{Untouched};
 ghost use Rattle.mdb_core.specs.Stores.{Keeps, is_failed};
@@ -23,7 +24,7 @@ use mdb_base::{Batch, NoMemory};
 use node_codec::Node;
 use node_table::NodeTable;
 use std::alloc::Global;
-use trie_items::{NodeSource, SourceFault};
+use trie_items::{NodeSource, ShownNode, SourceFault};
 
 /// A store and its disk as a source of nodes, which lends both.
 ///
@@ -47,6 +48,15 @@ impl<'b, D: Disk> NodeSource for DbSource<'b, D> {
 
     fn node(&mut self, alloc: Global, key: &Key) -> Result<Option<Node>, SourceFault> {
         Ok(self.db.node_at(alloc, self.spot, key)?)
+    }
+
+    fn shown(
+        &mut self,
+        alloc: Global,
+        key: &Key,
+        token: Option<u16>,
+    ) -> Result<Option<ShownNode>, SourceFault> {
+        Ok(self.db.shown_at(alloc, self.spot, key, token)?)
     }
 
     fn value(&mut self, alloc: Global, key: &[u8]) -> Result<Option<Vec<u8>>, SourceFault> {
@@ -162,12 +172,36 @@ impl Db {
         match spot {
             Spot::Store => {
                 let nodes = self.take_nodes(alloc)?;
-                let node = node_in(alloc, &nodes, key);
+                let node = nodes.node(alloc, key);
                 self.nodes = Some(nodes);
                 node
             }
-            Spot::View(proposal) => node_in(alloc, &proposal.nodes, key),
-            Spot::Past(past) => node_in(alloc, &past.nodes, key),
+            Spot::View(proposal) => proposal.nodes.node(alloc, key),
+            Spot::Past(past) => past.nodes.node(alloc, key),
+            Spot::Empty => Ok(None),
+        }
+    }
+
+    /// What a path shows of the node at a key in the map of a spot, with the rest of the child at a token.
+    fn shown_at(
+        &mut self,
+        alloc: Global,
+        spot: &Spot,
+        key: &Key,
+        token: Option<u16>,
+    ) -> Result<Option<ShownNode>, NoMemory>
+        ensures shown { (m : Map) (n : Map) → self.old.digests ≡ map_digests m → IsSpotOf self.old m spot.now n → IfOk result (λ shown. shown ≡ option_map (shown_of token) (row_of key.now (table self.old.width n))) }
+        ensures stays { self.new ≡ self.old }
+    {
+        match spot {
+            Spot::Store => {
+                let nodes = self.take_nodes(alloc)?;
+                let shown = nodes.shown(alloc, key, token);
+                self.nodes = Some(nodes);
+                shown
+            }
+            Spot::View(proposal) => proposal.nodes.shown(alloc, key, token),
+            Spot::Past(past) => past.nodes.shown(alloc, key, token),
             Spot::Empty => Ok(None),
         }
     }
@@ -242,15 +276,6 @@ fn root_key_in(alloc: Global, nodes: &NodeTable) -> Result<Option<Key>, NoMemory
             Ok(key) => Ok(Some(key)),
             Err(_) => Err(NoMemory),
         },
-    }
-}
-
-fn node_in(alloc: Global, nodes: &NodeTable, key: &Key) -> Result<Option<Node>, NoMemory>
-    ensures { IfOk result (λ node. node ≡ row_of key.now nodes.now) }
-{
-    match nodes.node(key) {
-        None => Ok(None),
-        Some(node) => Ok(Some(node.copy(alloc)?)),
     }
 }
 

@@ -1,2 +1,3 @@
 pub mod RowsByKey
 pub mod KeysInOrder
+pub mod KeptChildren

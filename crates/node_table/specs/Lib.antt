@@ -1,3 +1,4 @@
 pub mod Rows
+pub mod KeptNodes
 pub mod Pairs
 pub mod TableWords

@@ -5,6 +5,7 @@
 //! source tells the map of which both are.
 #![tactic(auto)]
 
+mod kept;
 mod places;
 mod source;
 mod table;

@@ -2,7 +2,6 @@
 ghost use Rattle.std.specs.Prelude.{◌+◌, ◌≤◌};
 
 use bit_keys::Key;
-use node_codec::Node;
 use std::alloc::Global;
 
 /// How many places are kept for the rows whose keys have one hash.
@@ -53,7 +52,7 @@ fn lay(places: &mut [u32], key: &Key, row: u32) {
 
 impl Places {
     /// The places of rows; none where there is no memory for them.
-    pub(crate) fn of_rows(alloc: Global, rows: &[(Key, Node)]) -> Places {
+    pub(crate) fn of_rows<T: Drop>(alloc: Global, rows: &[(Key, T)]) -> Places {
         let count = rows.len().saturating_mul(2).saturating_add(TRIES);
         let mut places = Vec::from_elem(alloc, FREE, count).unwrap_or(Vec::new(alloc));
         for (at, row) in rows.iter().enumerate() {

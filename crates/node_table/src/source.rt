@@ -13,7 +13,7 @@ use mdb_base::{KEY_LIMIT, NoMemory};
 use node_codec::Node;
 use std::alloc::Global;
 use std::cmp::Ordering;
-use trie_items::{NodeSource, SourceFault, value_digest};
+use trie_items::{NodeSource, ShownNode, SourceFault, value_digest};
 
 /// A source over a table of nodes and pairs in memory. It tells the map whose table and pairs they are, and
 /// never fails.
@@ -86,7 +86,7 @@ impl TableSource {
         let (_root, rows) = table_of_builder(alloc, builder)?;
         Ok(Some(TableSource {
             branch,
-            table: NodeTable::new(rows),
+            table: NodeTable::new(alloc, rows)?,
             pairs,
         }))
     }
@@ -149,10 +149,16 @@ impl NodeSource for TableSource {
     }
 
     fn node(&mut self, alloc: Global, key: &Key) -> Result<Option<Node>, SourceFault> {
-        match self.table.node(key) {
-            Some(node) => Ok(Some(node.copy(alloc)?)),
-            None => Ok(None),
-        }
+        Ok(self.table.node(alloc, key)?)
+    }
+
+    fn shown(
+        &mut self,
+        alloc: Global,
+        key: &Key,
+        token: Option<u16>,
+    ) -> Result<Option<ShownNode>, SourceFault> {
+        Ok(self.table.shown(alloc, key, token)?)
     }
 
     fn value(&mut self, alloc: Global, key: &[u8]) -> Result<Option<Vec<u8>>, SourceFault> {

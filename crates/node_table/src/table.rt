@@ -1,4 +1,4 @@
-ghost use Rattle.std.specs.Prelude.{◌≡◌, ◌+◌, ℕ, Some, length, map, IfOk, IfSome, OnOk, OnErr};
+ghost use Rattle.std.specs.Prelude.{◌≡◌, ◌+◌, ℕ, Some, length, map, option_map, IfOk, IfSome, OnOk, OnErr};
 ghost use Rattle.std.specs.Option.{option_copied};
 ghost use Rattle.trie_model.specs.Bits.{IsRising};
 ghost use Rattle.trie_model.specs.Ids.{id};
@@ -9,9 +9,11 @@ ghost use Rattle.trie_model.specs.Table.{items_table, table};
 ghost use Rattle.bit_keys.specs.Branch.{width_of};
 ghost use Rattle.map_root.specs.BuilderPairs.{pair_items, AreWithin};
 ghost use Rattle.map_root.specs.Hashes.{GrewAtMost};
+ghost use Rattle.trie_items.specs.Shown.{shown_of};
 ghost use Rattle.trie_items.specs.Sources.{first_key, row_of};
 ghost use Rattle.node_table.specs.Rows.{row_key};
 
+use crate::kept::KeptNode;
 use crate::places::Places;
 use bit_keys::{Id, Key};
 use map_root::Builder;
@@ -20,12 +22,12 @@ use node_codec::Node;
 use std::alloc::Global;
 use std::marker::Model;
 use std::sync::ledger::Ledger;
-use trie_items::Steps;
+use trie_items::{ShownNode, Steps};
 
 /// The nodes of a trie and their keys, in the order of the keys.
 #[derive(Drop)]
 pub struct NodeTable {
-    rows: Vec<(Key, Node)>,
+    rows: Vec<(Key, KeptNode)>,
     /// Asked before the rows are searched.
     places: Places,
 }
@@ -43,17 +45,29 @@ impl Model for NodeTable {
     ghost invariant = { λ t. IsRising (map row_key t.rows.items) };
 }
 
+/// The rows as the table keeps them.
+fn kept_rows(alloc: Global, rows: Vec<(Key, Node)>) -> Result<Vec<(Key, KeptNode)>, NoMemory>
+    ensures { IfOk result (λ made. made.items ≡ rows.items) }
+{
+    let mut made = Vec::with_capacity(alloc, rows.len())?;
+    for (key, node) in rows {
+        made.push((key, KeptNode::of_node(alloc, node)?))?;
+    }
+    Ok(made)
+}
+
 impl NodeTable {
     /// A table of nodes with keys that rise, as those are that `Builder::finish` gives.
     ///
     /// It takes eight bytes a row for finding rows by their keys. Where there is no memory for them they are
     /// found more slowly.
-    pub fn new(rows: Vec<(Key, Node)>) -> NodeTable
+    pub fn new(alloc: Global, rows: Vec<(Key, Node)>) -> Result<NodeTable, NoMemory>
         requires { IsRising (map row_key rows.items) }
-        ensures { result ≡ rows.items }
+        ensures { IfOk result (λ table. table ≡ rows.items) }
     {
-        let places = Places::of_rows(*rows.allocator(), rows.as_slice());
-        NodeTable { rows, places }
+        let rows = kept_rows(alloc, rows)?;
+        let places = Places::of_rows(alloc, rows.as_slice());
+        Ok(NodeTable { rows, places })
     }
 
     /// The root and the table of what a builder was told. `steps` counts as in `Builder::finish`.
@@ -71,7 +85,7 @@ impl NodeTable {
         ensures err { OnErr result (GrewAtMost (length (strings (width_of builder.branch) (pair_items builder.pairs))) steps.old steps.new) }
     {
         let (root, rows) = builder.finish(alloc, steps)?;
-        Ok((root, NodeTable::new(rows)))
+        Ok((root, NodeTable::new(alloc, rows)?))
     }
 
     /// The key of the root node, where there is one.
@@ -85,7 +99,7 @@ impl NodeTable {
     }
 
     /// The node at a key, where the places name its row.
-    fn named(&self, key: &Key) -> Option<&Node>
+    fn named(&self, key: &Key) -> Option<&KeptNode>
         ensures { IfSome result (λ node. row_of key.now self.now ≡ Some node.now) }
     {
         for place in self.places.of(key) {
@@ -98,7 +112,7 @@ impl NodeTable {
     }
 
     /// The node at a key, where there is one, by a search of the rows.
-    fn searched(&self, key: &Key) -> Option<&Node>
+    fn searched(&self, key: &Key) -> Option<&KeptNode>
         ensures { option_copied result ≡ row_of key.now self.now }
     {
         match self.rows.binary_search_by(|row| row.0.compare(key)) {
@@ -107,13 +121,37 @@ impl NodeTable {
         }
     }
 
-    /// The node at a key, where there is one.
-    pub fn node(&self, key: &Key) -> Option<&Node>
+    fn found(&self, key: &Key) -> Option<&KeptNode>
         ensures { option_copied result ≡ row_of key.now self.now }
     {
         match self.named(key) {
             Some(node) => Some(node),
             None => self.searched(key),
+        }
+    }
+
+    /// The node at a key, where there is one.
+    pub fn node(&self, alloc: Global, key: &Key) -> Result<Option<Node>, NoMemory>
+        ensures { IfOk result (λ node. node ≡ row_of key.now self.now) }
+    {
+        match self.found(key) {
+            Some(node) => Ok(Some(node.node(alloc)?)),
+            None => Ok(None),
+        }
+    }
+
+    /// What a path shows of the node at a key, where there is one, with the rest of the child at a token.
+    pub fn shown(
+        &self,
+        alloc: Global,
+        key: &Key,
+        token: Option<u16>,
+    ) -> Result<Option<ShownNode>, NoMemory>
+        ensures { IfOk result (λ shown. shown ≡ option_map (shown_of token) (row_of key.now self.now)) }
+    {
+        match self.found(key) {
+            Some(node) => Ok(Some(node.shown(alloc, token)?)),
+            None => Ok(None),
         }
     }
 }

@@ -51,7 +51,23 @@ fn assert_node(
         shape(source.node(alloc, &key)?) == want,
         "at {byte} {bits}"
     );
+    let shown = source.shown(alloc, &key, None)?;
+    assert!(rt;
+        shown.map(|node| node.children.len()) == want.map(|(count, _first)| count),
+        "shown at {byte} {bits}"
+    );
     Ok(())
+}
+
+// The number of bits of the rest that is shown of the root node's child at a token.
+fn rest_below_root(
+    alloc: Global,
+    source: &mut TableSource,
+    token: u16,
+) -> Result<Option<u64>, Fail> {
+    let root = source.root_key(alloc)?.ok_or("no root")?;
+    let node = source.shown(alloc, &root, Some(token))?.ok_or("no node")?;
+    Ok(node.rest.map(|rest| rest.bits()))
 }
 
 #[test]
@@ -70,6 +86,10 @@ fn nodes_and_pairs_are_found_by_their_keys(rt: HostRuntime) -> Result<(), Fail> 
         (8, 0x14, None),
     ] {
         assert_node(&rt, alloc, &mut source, bits, byte, want)?;
+    }
+    for (token, want) in [(1, Some(0)), (2, Some(4)), (3, None)] {
+        let rest = rest_below_root(alloc, &mut source, token)?;
+        assert!(rt; rest == want, "below {token}");
     }
     let value = source.value(alloc, b"\x13")?.ok_or("no value")?;
     assert!(rt; value.as_slice() == b"b".as_slice());
@@ -131,6 +151,6 @@ fn a_builder_gives_its_root_and_its_table(rt: HostRuntime) -> Result<(), Fail> {
     assert_eq!(rt; root, ONE);
     let key = table.root_key().ok_or("no root")?;
     assert_eq!(rt; key.bytes(), b"\x6b".as_slice());
-    assert!(rt; table.node(key).is_some());
+    assert!(rt; table.node(alloc, key)?.is_some());
     Ok(())
 }

@@ -20,11 +20,12 @@ use Rattle.trie_model.proofs.KeySets.{in_order-of, in_order-in, in_order-rises, 
 use Rattle.trie_model.proofs.Lists.{All-member, Member-filter-of}
 use Rattle.trie_model.proofs.NodeKeys.{AreTokens, node_keys-of, node_keys-in, node_keys-rise}
 use Rattle.trie_model.proofs.Prefixes.{same_key-is, same_key-itself, split_prefix, take-is_prefix, length_whole, whole_of_whole}
+use Rattle.trie_items.specs.Shown.{child_at, child_named, rest_of}
 use Rattle.trie_items.specs.Sources.{first_key, row_of}
 use Rattle.proof_model.specs.Paths.{ProofNode, shown_row, path_rows, path}
 use Rattle.proof_model.proofs.PathKeys.{AreNodeKeys, path_keys, shortest_in}
 use Rattle.proof_model.proofs.TruePaths.{node_keys-AreNodeKeys, path_rows-keys}
-use Rattle.point_proof.specs.WaysDown.{child_at, key_in_slot, goes_on, next_on_way, with_node, go_on, way, whole_way}
+use Rattle.point_proof.specs.WaysDown.{key_in_slot, goes_on, next_on_way, with_node, go_on, way, whole_way}
 use Rattle.point_proof.proofs.WalkedKeys.{next_key_on, walk, first_of, walked_whole}
 
 -- ---- node keys of any keys of whole tokens
@@ -131,28 +132,31 @@ module _ (w : ℕ) (is : List Item) where
 
   -- the child that a node keeps at a token has the key of the child in the slot
   found : (k n : List Bool) (t : ℕ) → t < 2 ^ w → n ++ bits_of w t ≡ take (length n + w) k → length n + w ≤ length k
-      → key_in_slot (length n + w) k (child_at t (table_node w is n).children) ≡ shortest (filter (is_prefix (take (length n + w) k)) keys)
+      → key_in_slot w k n (rest_of (child_at t (table_node w is n).children)) ≡ shortest (filter (is_prefix (take (length n + w) k)) keys)
   unfolding table_node
   found k n t small e l =
-      ap (key_in_slot (length n + w) k) (child_at-kept w n is (λ t. n ++ bits_of w t) (λ t. child_key w (places is) (n ++ bits_of w t)) 0 (2 ^ w) t (omega arith) (omega arith))
+      ap (λ o. key_in_slot w k n (rest_of o)) (child_at-kept w n is (λ t. n ++ bits_of w t) (λ t. child_key w (places is) (n ++ bits_of w t)) 0 (2 ^ w) t (omega arith) (omega arith))
       ∙ go (child_key w (places is) (n ++ bits_of w t)) refl
       ∙ ap (λ s. shortest (filter (is_prefix s) keys)) e
     where
-      go : (o : Option (List Bool)) → child_key w (places is) (n ++ bits_of w t) ≡ o → key_in_slot (length n + w) k (child_at t (kept_child w (length n) t (n ++ bits_of w t) o is)) ≡ o
+      go : (o : Option (List Bool)) → child_key w (places is) (n ++ bits_of w t) ≡ o → key_in_slot w k n (rest_of (child_at t (kept_child w (length n) t (n ++ bits_of w t) o is))) ≡ o
       go None f = refl
       go (Some c) f =
           let s = take (length n + w) k in
           let size : length s ≡ length n + w = length-take-le (length n + w) k l in
           let begins : is_prefix s c ≡ true = subst (λ s. is_prefix s c ≡ true) e (Member-filter-of (is_prefix (n ++ bits_of w t)) keys c (shortest_in (filter (is_prefix (n ++ bits_of w t)) keys) c f)).1 in
-          ap (λ b. key_in_slot (length n + w) k (cond b (Some (record { index = t; rest = drop (length n + w) c; id = id w (below w (n ++ bits_of w t) is); has_value = is_some (digest_at c is) })) None)) (same_number t)
+          ap (λ b. key_in_slot w k n (rest_of (cond b (Some (record { index = t; rest = drop (length n + w) c; id = id w (below w (n ++ bits_of w t) is); has_value = is_some (digest_at c is) })) None))) (same_number t)
           ∙ ap Some (ap (λ a. s ++ drop a c) (sym size) ∙ sym (split_prefix s c begins))
 
   -- so the next node is the one toward k
   next_is : (k n : List Bool) → 0 < w → (a : ℕ) × (length n ≡ w * a) → next_on_way w k n (table_node w is n) ≡ next_key_on w keys k n
   next_is k n pos whole = go (is_prefix n k) refl (leb (length n + w) (length k)) refl
     where
+      toward : Bool → Bool → Option (List Bool)
+      toward p q = cond (p && q) (key_in_slot w k n (rest_of (child_named (cond (p && q) (Some (token_at w (w * (length n / w)) k)) None) (table_node w is n).children))) None
+
       go : (p : Bool) → is_prefix n k ≡ p → (q : Bool) → leb (length n + w) (length k) ≡ q
-          → cond (p && q) (key_in_slot (length n + w) k (child_at (token_at w (w * (length n / w)) k) (table_node w is n).children)) None ≡ cond (p && q) (shortest (filter (is_prefix (take (length n + w) k)) keys)) None
+          → toward p q ≡ cond (p && q) (shortest (filter (is_prefix (take (length n + w) k)) keys)) None
       go false e q f = refl
       go true e false f = refl
       go true e true f =
@@ -161,8 +165,8 @@ module _ (w : ℕ) (is : List Item) where
           let at : w * (length n / w) ≡ length n = sym (length_whole w n pos) ∙ ap length (whole_of_whole w whole.0 n pos whole.1) in
           let small = subst (λ m. number_of s.0 < 2 ^ m) s.1 (number-small s.0) in
           let bits : bits_of w (number_of s.0) ≡ s.0 = ap (λ m. bits_of m (number_of s.0)) (sym s.1) ∙ bits_of-number_of s.0 in
-          ap (λ a. key_in_slot (length n + w) k (child_at (token_at w a k) (table_node w is n).children)) at
-          ∙ ap (λ t. key_in_slot (length n + w) k (child_at t (table_node w is n).children)) s.2
+          ap (λ a. key_in_slot w k n (rest_of (child_at (token_at w a k) (table_node w is n).children))) at
+          ∙ ap (λ t. key_in_slot w k n (rest_of (child_at t (table_node w is n).children))) s.2
           ∙ found k n (number_of s.0) small (ap (λ b. n ++ b) bits ∙ s.3) l
         where
           fits : (a b : ℕ) → leb a b ≡ true → a ≤ b

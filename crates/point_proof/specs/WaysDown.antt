@@ -1,28 +1,31 @@
 -- The way down to a key, as it is walked: from a node to the child in the slot in which the key lies.
-use Rattle.std.specs.Prelude.{ℕ, zero, suc, ◌+◌, ◌*◌, ◌/◌, Bool, cond, nat_le, ◌&&◌, ◌==◌, List, [], ◌∷◌, ◌++◌, length, take, Option, Some, None}
+use Rattle.std.specs.Prelude.{ℕ, zero, suc, ◌+◌, ◌*◌, ◌/◌, Bool, cond, nat_le, ◌&&◌, List, [], ◌∷◌, ◌++◌, length, take, Option, Some, None}
 use Rattle.trie_model.specs.Bits.{is_prefix, token_at}
-use Rattle.trie_model.specs.StoredNode.{StoredChild, StoredNode}
+use Rattle.trie_model.specs.StoredNode.{StoredNode}
 use Rattle.trie_model.specs.Table.{Row}
+use Rattle.trie_items.specs.Shown.{child_named, rest_of}
 use Rattle.trie_items.specs.Sources.{first_key, row_of}
 use Rattle.proof_model.specs.Paths.{ProofNode, shown_row}
-
--- the child at a token
-abbrev pub child_at : ℕ → List StoredChild → Option StoredChild
-child_at t [] = None
-child_at t (c ∷ cs) = cond (c.index == t) (Some c) (child_at t cs)
-
--- the key of a child whose slot is the first bits of k
-abbrev pub key_in_slot : ℕ → List Bool → Option StoredChild → Option (List Bool)
-key_in_slot bits k None = None
-key_in_slot bits k (Some c) = Some (take bits k ++ c.rest)
 
 -- whether k goes on behind n, by a token at least
 abbrev pub goes_on : ℕ → List Bool → List Bool → Bool
 goes_on w k n = is_prefix n k && nat_le (length n + w) (length k)
 
+-- the token of the slot below n in which k lies
+abbrev pub token_on_way : ℕ → List Bool → List Bool → Option ℕ
+token_on_way w k n = cond (goes_on w k n) (Some (token_at w (w * (length n / w)) k)) None
+
+-- the key of a child with this rest in that slot
+abbrev pub key_in_slot : ℕ → List Bool → List Bool → Option (List Bool) → Option (List Bool)
+key_in_slot w k n None = None
+key_in_slot w k n (Some rest) = Some (take (length n + w) k ++ rest)
+
+abbrev pub key_toward : ℕ → List Bool → List Bool → Option (List Bool) → Option (List Bool)
+key_toward w k n rest = cond (goes_on w k n) (key_in_slot w k n rest) None
+
 -- the key of the child toward k of the node at n
 abbrev pub next_on_way : ℕ → List Bool → List Bool → StoredNode → Option (List Bool)
-next_on_way w k n x = cond (goes_on w k n) (key_in_slot (length n + w) k (child_at (token_at w (w * (length n / w)) k) x.children)) None
+next_on_way w k n x = key_toward w k n (rest_of (child_named (token_on_way w k n) x.children))
 
 -- the node that is there, and then the rest of the way
 abbrev pub with_node : List Bool → Option StoredNode → (StoredNode → List ProofNode) → List ProofNode

@@ -1,20 +1,20 @@
-ghost use Rattle.std.specs.Prelude.{◌≡◌, ◌+◌, ◌≤◌, ◌++◌, IfOk, length, take, drop, map};
+ghost use Rattle.std.specs.Prelude.{◌≡◌, ◌+◌, ◌≤◌, ◌++◌, IfOk, length, take, drop};
 ghost use Rattle.trie_model.specs.Bits.{is_prefix};
 ghost use Rattle.trie_model.specs.Maps.{Map};
-ghost use Rattle.trie_model.specs.Table.{hashed_child, table};
-ghost use Rattle.node_codec.specs.StoredNodes.{stored_children};
+ghost use Rattle.trie_model.specs.Table.{table};
 ghost use Rattle.bit_keys.specs.Branch.{width_of};
-ghost use Rattle.trie_items.specs.Children.{children_of};
 ghost use Rattle.trie_items.specs.Sources.{Answers};
-ghost use Rattle.proof_model.specs.Paths.{path, shown_row};
-ghost use Rattle.point_proof.specs.WaysDown.{child_at, key_in_slot, next_on_way, whole_way};
+ghost use Rattle.proof_model.specs.Paths.{path};
+ghost use Rattle.point_proof.specs.WaysDown.{key_toward, token_on_way, whole_way};
 
 use crate::joining::joined;
 use bit_keys::{Branch, Key, NoMemory};
-use node_codec::{Child, Node};
 use proof_check::ProofNode;
 use std::alloc::Global;
-use trie_items::{ChildId, NodeSource, SourceFault};
+use trie_items::{NodeSource, SourceFault};
+
+/// Room for so many nodes is made at once for a path.
+const USUAL_LENGTH: usize = 8;
 
 /// Whether these bits stand behind the first `bits` bits of `wanted`.
 fn stands_behind(alloc: Global, wanted: &Key, bits: u64, rest: &Key) -> Result<bool, NoMemory>
@@ -43,69 +43,40 @@ fn key_with_rest(alloc: Global, wanted: &Key, bits: u64, rest: &Key) -> Result<K
     joined(alloc, wanted.first(alloc, bits)?, rest)
 }
 
-/// The key of the child at a token whose slot is the first `bits` bits of `wanted`.
-fn key_of_child(
-    alloc: Global,
-    wanted: &Key,
-    bits: u64,
-    token: u16,
-    children: &[Child],
-) -> Result<Option<Key>, NoMemory>
-    requires { bits ≤ length wanted.now }
-    ensures { IfOk result (λ k. k ≡ key_in_slot bits wanted.now (child_at token (stored_children children.now))) }
-{
-    for child in children {
-        if child.index == token {
-            return Ok(Some(key_with_rest(alloc, wanted, bits, &child.rest)?));
-        }
-    }
-    Ok(None)
-}
-
-/// The key of the child toward `wanted` of the node at `at`.
-fn next_down(
-    alloc: Global,
-    branch: Branch,
-    wanted: &Key,
-    at: &Key,
-    node: &Node,
-) -> Result<Option<Key>, NoMemory>
-    ensures { IfOk result (λ k. k ≡ next_on_way (width_of branch) wanted.now at.now node.now) }
+/// The token of the slot below the node at `at` in which `wanted` lies, where it goes on there.
+fn token_toward(branch: Branch, wanted: &Key, at: &Key) -> Option<u16>
+    ensures { result ≡ token_on_way (width_of branch) wanted.now at.now }
 {
     let bits = at.bits();
     let total = wanted.bits();
     let width = u64::from(branch.width());
     if !at.is_prefix(wanted) || total < width || total - width < bits {
-        return Ok(None);
+        return None;
     }
-    let token = wanted.token(branch, bits / width);
-    key_of_child(alloc, wanted, bits + width, token, node.children.as_slice())
+    Some(wanted.token(branch, bits / width))
 }
 
-/// The children as a path shows them.
-fn child_ids(alloc: Global, children: &[Child]) -> Result<Vec<ChildId>, NoMemory>
-    ensures { IfOk result (λ made. children_of made.items ≡ map hashed_child (stored_children children.now)) }
+/// The key of the child with this rest in that slot.
+fn next_down(
+    alloc: Global,
+    branch: Branch,
+    wanted: &Key,
+    at: &Key,
+    token: Option<u16>,
+    rest: Option<Key>,
+) -> Result<Option<Key>, NoMemory>
+    requires { token ≡ token_on_way (width_of branch) wanted.now at.now }
+    ensures { IfOk result (λ k. k ≡ key_toward (width_of branch) wanted.now at.now rest) }
 {
-    let mut made = Vec::with_capacity(alloc, children.len())?;
-    for child in children {
-        made.push(ChildId {
-            index: child.index,
-            id: child.id,
-        })?;
+    match (token, rest) {
+        (Some(_), Some(rest)) => {
+            // That the key has more bits says that their number fits.
+            let _total = wanted.bits();
+            let bits = at.bits() + u64::from(branch.width());
+            Ok(Some(key_with_rest(alloc, wanted, bits, &rest)?))
+        }
+        _ => Ok(None),
     }
-    Ok(made)
-}
-
-/// A node as a path shows it.
-fn shown(alloc: Global, key: Key, node: Node) -> Result<ProofNode, NoMemory>
-    ensures { IfOk result (λ n. n ≡ shown_row (key, node)) }
-{
-    let children = child_ids(alloc, node.children.as_slice())?;
-    Ok(ProofNode {
-        key,
-        digest: node.digest,
-        children,
-    })
 }
 
 /// The nodes on the way from the root node down to a key.
@@ -119,14 +90,19 @@ fn path_to<N: NodeSource>(
     ensures path { IfOk result (λ p. (m : Map) → N.words.told source.old m → p.items ≡ whole_way (width_of branch) (table (width_of branch) m) wanted.now) }
     ensures answers { Answers N.words source.old source.new result }
 {
-    let mut path = Vec::new(alloc);
+    let mut path = Vec::with_capacity(alloc, USUAL_LENGTH)?;
     let mut next = source.root_key(alloc)?;
     while let Some(at) = next {
-        let Some(node) = source.node(alloc, &at)? else {
+        let token = token_toward(branch, wanted, &at);
+        let Some(node) = source.shown(alloc, &at, token)? else {
             break;
         };
-        next = next_down(alloc, branch, wanted, &at, &node)?;
-        path.push(shown(alloc, at, node)?)?;
+        next = next_down(alloc, branch, wanted, &at, token, node.rest)?;
+        path.push(ProofNode {
+            key: at,
+            digest: node.digest,
+            children: node.children,
+        })?;
     }
     Ok(path)
 }

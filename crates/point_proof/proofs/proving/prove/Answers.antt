@@ -1,4 +1,3 @@
-use Rattle.bit_keys.specs.Branch.{width_of}
 use Rattle.point_proof.proofs.proving.prove.Goals as goal
 
 pub returns-clause-proof : goal.returns-clause-proof

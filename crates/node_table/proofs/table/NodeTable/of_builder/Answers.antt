@@ -9,4 +9,4 @@ pub new-requires : goal.new-requires
 new-requires g c = table_rises (width_of c.args.builder.branch) (pair_items c.args.builder.pairs) c.in_ok-root.rows.items c.in_ok-root.ensures.nodes
 
 pub returns-clause-stored : goal.returns-clause-stored
-returns-clause-stored g c = λ l w. subst (AreStored l (width_of c.args.builder.branch)) (sym c.new.ensures) (c.in_ok-root.ensures.stored l w)
+returns-clause-stored g c = λ l w. subst (AreStored l (width_of c.args.builder.branch)) (sym c.in_ok-new.ensures) (c.in_ok-root.ensures.stored l w)

@@ -2,7 +2,7 @@ use Rattle.std.proofs.Common.{◌≡◌, ◌++◌, map, drop}
 use Rattle.trie_model.specs.Table.{hashed_child}
 use Rattle.trie_items.specs.Children.{children_of}
 use Rattle.node_codec.specs.StoredNodes.{stored_children}
-use Rattle.point_proof.proofs.walking.child_ids.Given as goal
+use Rattle.trie_items.proofs.shown.child_ids.Given as goal
 
 -- the children so far, and those that are left, are all children
 abbrev pub invariant-loop-child : goal.invariant-loop-child
