@@ -16,7 +16,7 @@ use Rattle.batch_model.proofs.SetChanges.{lower, get_changed}
 use Rattle.history_model.specs.Changes.{Delta, same_value, deltas, delta_weight, weight}
 use Rattle.history_model.specs.Laws.{values_at}
 use Rattle.history_model.proofs.Values.{same_key, key-itself, value-itself}
-use Rattle.history_model.proofs.Deltas.{Values, keyed, differ, values_at-deltas, deltas-sorted, one_list}
+use Rattle.history_model.proofs.Deltas.{Values, keyed, values_at-deltas, deltas-sorted, one_list}
 use Rattle.history_model.proofs.Changes.{AreSorted, not_found}
 use Rattle.mdb_core.specs.Alterations.{altered, altered_in, alterations}
 use Rattle.mdb_core.proofs.BatchLookups.{higher_changes}

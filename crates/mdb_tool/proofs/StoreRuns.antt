@@ -1,5 +1,5 @@
 -- What all runs of a command on a store promise, by how they end.
-use Rattle.std.proofs.Common.{◌≡◌, ◌≢◌, ℕ, Bool, true, false, List, Option, Some, None, Result, Ok, Err, refl, subst, inl, inr}
+use Rattle.std.proofs.Common.{◌≡◌, ◌≢◌, ℕ, Bool, true, List, Option, Some, None, Result, Ok, Err, refl, subst, inl, inr}
 use Rattle.std.specs.Prelude.{IfSome}
 use Rattle.base_model.specs.Faults.{Rose}
 use Rattle.disk_model.specs.Words.{TellsContents}
@@ -11,7 +11,7 @@ use Rattle.run_model.specs.OutsideThings.{DiskSeen, Outside}
 use Rattle.run_model.specs.End.{End, Done, BadWords, BadLine, NotOpened, VerifyRefused, NotHeld, Limit, Read, Write, Disk, NoMemory}
 use Rattle.run_model.specs.Outcome.{Outcome, PrintsNothing, CameTo, IsComplete}
 use Rattle.run_model.specs.Store.{IsFound, NeedsStore, on_found, RefusalHasCause}
-use Rattle.run_model.specs.Command.{Command, names_map, checks_proofs}
+use Rattle.run_model.specs.Command.{Command, names_map}
 use Rattle.run_model.specs.Runs.{ReadHasCause, WriteHasCause, DiskHasCause, InputLimitHasCause, IsOwnEnd}
 use Rattle.store_opening.specs.Opening.{FailsBy}
 use Rattle.run_model.proofs.ToldThings.{always}

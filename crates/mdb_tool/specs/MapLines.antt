@@ -1,5 +1,5 @@
 -- What the lines of an input make of a map, where its source told them.
-use Rattle.std.specs.Prelude.{ℕ, ◌<◌, ◌≤◌, ◌≡◌, List, ◌++◌, length, Option, Some, None, Ok, IfSome}
+use Rattle.std.specs.Prelude.{ℕ, ◌<◌, ◌≤◌, ◌≡◌, List, length, Option, Some, None, Ok, IfSome}
 use Rattle.mdb_base.specs.declared.faults.LimitKind.TheVariants.{Input}
 use Rattle.mdb_tool.specs.declared.map_lines.MapFault.{MapFault}
 use Rattle.mdb_tool.specs.declared.map_lines.MapFault.TheVariants.{Line as AtLine, Read as AtRead, Limit as AtLimit, NoMemory as AtMemory}

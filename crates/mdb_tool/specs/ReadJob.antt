@@ -3,7 +3,7 @@ use Rattle.std.specs.Prelude.{◌≡◌, ℕ, ◌+◌, List, Result, Ok, Err}
 use Rattle.std.specs.Result.{result_ok}
 use Rattle.range_model.specs.Ranges.{Range as Bounds}
 use Rattle.text_model.specs.ReadLine.{bound_word}
-use Rattle.text_model.specs.Words.{RootWord, most_pairs, most_bytes, count_word}
+use Rattle.text_model.specs.Words.{most_pairs, most_bytes, count_word}
 use Rattle.run_model.specs.Command.{Command, Root, Apply, Get, Prove, Range, Changes, Verify, Job, no_more, word_then, end_word}
 use Rattle.bit_keys.specs.Branch.{width_of}
 use Rattle.batch_text.specs.SeenLine.{seen_root}

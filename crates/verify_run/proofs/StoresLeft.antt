@@ -1,5 +1,5 @@
 -- How the store against whose map changes are checked is left, with its disk.
-use Rattle.std.proofs.Common.{◌≡◌, ◌≢◌, ◌⊎◌, ℕ, ◌≤◌, Bool, true, false, List, length, Option, Some, None, Result, Ok, Err, refl, sym, ap, ◌∙◌, subst, inl, inr, arith}
+use Rattle.std.proofs.Common.{◌≡◌, ◌≢◌, ◌⊎◌, ℕ, ◌≤◌, true, false, List, length, Option, Some, None, Result, Ok, Err, refl, sym, ap, ◌∙◌, subst, inl, inr, arith}
 use Rattle.std.specs.Option.{is_some}
 use Rattle.base_model.specs.Faults.{Rose}
 use Rattle.disk_model.specs.Words.{TellsContents}
@@ -26,7 +26,7 @@ use Rattle.text_model.specs.LineKind.{LineKind}
 use Rattle.text_model.specs.ReadLine.{Line, VerifyChanges}
 use Rattle.text_model.specs.Texts.{ok_text}
 use Rattle.proof_model.specs.ChangeProofs.{ChangeProof}
-use Rattle.proof_model.specs.CheckedBytes.{Cause, change_checked}
+use Rattle.proof_model.specs.CheckedBytes.{change_checked}
 use Rattle.proof_check.specs.RefusalReasons.{seen_cause}
 use Rattle.run_model.specs.Verify.{Fault, tells_changes, read_verdict, listed_verdict, changes_verdict}
 use Rattle.verify_run.specs.declared.proof_fault.ProofFault.{ProofFault}

@@ -33,9 +33,8 @@ use Rattle.verify_run.specs.declared.end.VerifyEnd.TheVariants as ends
 use Rattle.proof_check.specs.RefusalReasons.{seen_cause}
 use Rattle.store_opening.specs.Opening.{end_of_fault}
 use Rattle.verify_run.specs.Checks.{TellsStore}
-use Rattle.verify_run.specs.Ends.{end_of, reader_end, Breaks, LineEnds, MayEnd}
+use Rattle.verify_run.specs.Ends.{end_of, reader_end, LineEnds, MayEnd}
 use Rattle.verify_run.specs.LocalStores.{IsLocal, IsLeft, asked_by, IsFoundWhere, Stops}
-use Rattle.mdb_core.specs.declared.fault.DbFault.{DbFault}
 use Rattle.proof_model.specs.CheckedBytes.{Cause}
 use Rattle.verify_run.proofs.StoresLeft.{local_left, local_untouched, store_end}
 use Rattle.verify_run.proofs.LinesSoFar.{passes, DoneLines, SoFar, Within, Ends, EndsSo, PrintsFront, front_printed, ends_at_end, ends_past, ends_overlong, ends_given, breaks_given, asks_given}

@@ -1,4 +1,4 @@
-use Rattle.std.proofs.Common.{ℕ, ◌∙◌}
+use Rattle.std.proofs.Common.{◌∙◌}
 use Rattle.range_model.specs.Ranges.{Range as Bounds}
 use Rattle.mdb_tool.specs.ReadJob.{counts_words}
 use Rattle.mdb_tool.proofs.job.read_asked.Goals as goal

@@ -1,4 +1,4 @@
-use Rattle.std.proofs.Common.{◌≡◌, ℕ, Option, List, ap, ◌∙◌, subst}
+use Rattle.std.proofs.Common.{◌≡◌, ℕ, List, ap, ◌∙◌, subst}
 use Rattle.std.specs.Prelude.{option_map, string_bytes}
 use Rattle.bit_keys.specs.Branch.{width_of}
 use Rattle.range_model.specs.Ranges.{Range}

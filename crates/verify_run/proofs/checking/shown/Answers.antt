@@ -1,4 +1,4 @@
-use Rattle.std.proofs.Common.{◌≡◌, List, ℕ, Option, Some, Result, Ok, sym, ap, subst, arith}
+use Rattle.std.proofs.Common.{List, ℕ, Some, Ok, sym, subst, arith}
 use Rattle.bit_keys.specs.Branch.{width_of}
 use Rattle.batch_text.specs.SeenLine.{seen_line}
 use Rattle.batch_text.specs.declared.line.Line.{Line}

@@ -1,9 +1,8 @@
-use Rattle.std.proofs.Common.{◌≡◌, Result, Ok, sym, subst}
+use Rattle.std.proofs.Common.{Ok, sym, subst}
 use Rattle.std.specs.Prelude.{string_bytes}
 use Rattle.bit_keys.specs.Branch.{width_of}
 use Rattle.batch_text.specs.SeenLine.{seen_line}
 use Rattle.run_model.specs.OutsideThings.{disk_seen}
-use Rattle.verify_run.specs.Checks.{end_at}
 use Rattle.verify_run.specs.Ends.{end_of, Leaves}
 use Rattle.verify_run.specs.LocalStores.{Stops}
 use Rattle.verify_run.proofs.StoresLeft.{stops_as, proof_leaves, text_goes, text_stops}

@@ -1,22 +1,19 @@
-use Rattle.std.proofs.Common.{◌≡◌, ℕ, Bool, true, false, List, Option, None, Result, Ok, Err, refl, sym, ap, ◌∙◌, subst, arith}
+use Rattle.std.proofs.Common.{◌≡◌, ℕ, Bool, List, Ok, Err, refl, sym, ap, ◌∙◌, subst, arith}
 use Rattle.std.specs.Prelude.{is_ok}
 use Rattle.std.specs.Option.{is_some}
 use Rattle.bit_keys.specs.Branch.{width_of}
-use Rattle.trie_model.specs.Maps.{Map}
-use Rattle.store_model.specs.Refusals.{Refusal}
 use Rattle.batch_text.specs.Stream.{SettlesNothing}
 use Rattle.batch_text.specs.declared.reader.ReaderFault.{ReaderFault}
 use Rattle.batch_text.specs.declared.reader.ReaderFault.TheVariants.{Read as ReadFault}
 use Rattle.batch_text.proofs.UsedBytes.{none_used, line_used, good_so_far}
 use Rattle.text_model.specs.ReadLine.{Verify as proof_lines, read_line}
 use Rattle.run_model.specs.OutsideThings.{outside, disk_seen}
-use Rattle.run_model.specs.Verify.{Fault}
 use Rattle.run_model.proofs.StoredMaps.{map_on_disk}
 use Rattle.run_model.proofs.ToldThings.{rose_at_last}
 use Rattle.proof_check.proofs.WholePoints.{width_of-IsWidth}
 use Rattle.verify_run.specs.declared.end.VerifyEnd.TheVariants as ends
 use Rattle.verify_run.specs.Ends.{end_of, reader_end, Passes, LineEnds}
-use Rattle.verify_run.specs.LocalStores.{IsLocal, IsFoundWhere, asked_by, Goes, Stops}
+use Rattle.verify_run.specs.LocalStores.{IsLocal, Goes, Stops}
 use Rattle.verify_run.proofs.LinesSoFar.{passes, passes-RefusesOverlong, at_start, goes_on, within_start, within_on}
 use Rattle.verify_run.proofs.StoresLeft.{asked_before}
 use Rattle.verify_run.proofs.VerifyEnds.{Promises, at_end, reader_stops, line_stops, asks_now}
