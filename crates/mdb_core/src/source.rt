@@ -195,13 +195,13 @@ impl Db {
     {
         match spot {
             Spot::Store => {
-                let nodes = self.take_nodes(alloc)?;
+                let mut nodes = self.take_nodes(alloc)?;
                 let shown = nodes.shown(alloc, key, token);
                 self.nodes = Some(nodes);
                 shown
             }
-            Spot::View(proposal) => proposal.nodes.shown(alloc, key, token),
-            Spot::Past(past) => past.nodes.shown(alloc, key, token),
+            Spot::View(proposal) => shown_in(alloc, &proposal.nodes, key, token),
+            Spot::Past(past) => shown_in(alloc, &past.nodes, key, token),
             Spot::Empty => Ok(None),
         }
     }
@@ -276,6 +276,22 @@ fn root_key_in(alloc: Global, nodes: &NodeTable) -> Result<Option<Key>, NoMemory
             Ok(key) => Ok(Some(key)),
             Err(_) => Err(NoMemory),
         },
+    }
+}
+
+/// What a path shows of the node at a key in a table that is lent: its row is searched, which takes less time than the
+/// table that was made for the spot.
+fn shown_in(
+    alloc: Global,
+    nodes: &NodeTable,
+    key: &Key,
+    token: Option<u16>,
+) -> Result<Option<ShownNode>, NoMemory>
+    ensures { IfOk result (λ shown. shown ≡ option_map (shown_of token) (row_of key.now nodes.now)) }
+{
+    match nodes.node(alloc, key)? {
+        Some(node) => Ok(Some(ShownNode::of_node(alloc, node, token)?)),
+        None => Ok(None),
     }
 }
 

@@ -19,12 +19,12 @@ joined-push [] (x ∷ bs) c b e = absurd (omega (arith, e))
 joined-push (x ∷ cs) [] c b e = absurd (omega (arith, e))
 joined-push (x ∷ cs) (y ∷ bs) c b e = ap (λ r. joined x y ∷ r) (joined-push cs bs c b (omega (arith, e)))
 
-pub parted_on : (cs ds : List ChildId) (bs es : List Below) (ys : List Child) (x : Child) → length cs ≡ length bs → joined_all cs bs ≡ stored_children ys
-    → ds ≡ cs ++ record { index = x.index; id = x.id } ∷ [] → es ≡ bs ++ record { rest = x.rest; has_value = x.has_value } ∷ []
+pub parted_on : (cs ds : List ChildId) (bs es : List Below) (ys : List Child) (x : Child) (row : ℕ) → length cs ≡ length bs → joined_all cs bs ≡ stored_children ys
+    → ds ≡ cs ++ record { index = x.index; id = x.id } ∷ [] → es ≡ bs ++ record { rest = x.rest; has_value = x.has_value; row = row } ∷ []
     → record { long : length ds ≡ length es; same : joined_all ds es ≡ stored_children (ys ++ x ∷ []) }
-parted_on cs ds bs es ys x e so_far p q =
+parted_on cs ds bs es ys x row e so_far p q =
     let c : ChildId = record { index = x.index; id = x.id } in
-    let b : Below = record { rest = x.rest; has_value = x.has_value } in
+    let b : Below = record { rest = x.rest; has_value = x.has_value; row = row } in
     rw (p, q) (record {
       long = omega (arith, e, length-append cs (c ∷ []), length-append bs (b ∷ []));
       same = joined-push cs bs c b e ∙ ap (λ r. r ++ joined c b ∷ []) so_far ∙ sym (map-append stored_child ys (x ∷ []));
@@ -44,7 +44,7 @@ pub whole_on : (cs : List ChildId) (bs : List Below) (i n : ℕ) (d : ChildId) (
 whole_on cs bs i n d b part made now rest all s e l p r q so_far =
     let x : Child = record { index = (get_or cs i d).index; rest = rest; id = (get_or cs i d).id; has_value = part.has_value } in
     let tail = joined_all (drop (suc i) cs) (drop (suc i) bs) in
-    let same : stored_child x ≡ joined (get_or cs i d) (get_or bs i b) = ap (λ rest. joined (get_or cs i d) (record { rest = rest; has_value = part.has_value })) r ∙ ap (joined (get_or cs i d)) p in
+    let same : stored_child x ≡ joined (get_or cs i d) (get_or bs i b) = ap (λ rest. joined (get_or cs i d) (record { rest = rest; has_value = part.has_value; row = part.row })) r ∙ ap (joined (get_or cs i d)) p in
     rw (q, s) (
     ap (λ r. r ++ tail) (map-append stored_child made (x ∷ []))
     ∙ append_assoc (stored_children made) (stored_child x ∷ []) tail

@@ -1,9 +1,10 @@
 // A node as the table keeps it.
-ghost use Rattle.std.specs.Prelude.{◌≡◌, IfOk, length};
+ghost use Rattle.std.specs.Prelude.{◌≡◌, IfOk, length, option_map};
 ghost use Rattle.node_codec.specs.StoredNodes.{stored_children};
 ghost use Rattle.trie_items.specs.Shown.{child_at, child_named, rest_of, shown_of};
 ghost use Rattle.node_table.specs.KeptNodes.{joined_all};
 
+use crate::sizes::behind;
 use bit_keys::Key;
 use mdb_base::NoMemory;
 use node_codec::{Child, Digest, Node};
@@ -16,6 +17,8 @@ use trie_items::{ChildId, ShownNode};
 pub(crate) struct Below {
     rest: Key,
     has_value: bool,
+    /// Where its row may stand. No contract says that it does.
+    row: u32,
 }
 
 /// A node whose children stand in two pieces. A path shows the first of them, which is copied at once.
@@ -53,13 +56,19 @@ fn copy_digest(digest: &Option<Digest>) -> Option<Digest>
     }
 }
 
-/// The two pieces of children.
-fn parted(alloc: Global, children: Vec<Child>) -> Result<(Vec<ChildId>, Vec<Below>), NoMemory>
+/// The two pieces of children, the first of which may have its row at that place.
+fn parted(
+    alloc: Global,
+    children: Vec<Child>,
+    first: u32,
+    sizes: &[u32],
+) -> Result<(Vec<ChildId>, Vec<Below>), NoMemory>
     ensures long { IfOk result (λ parts. length parts.0.items ≡ length parts.1.items) }
     ensures same { IfOk result (λ parts. joined_all parts.0.items parts.1.items ≡ stored_children children.items) }
 {
     let mut ids = Vec::with_capacity(alloc, children.len())?;
     let mut below = Vec::with_capacity(alloc, children.len())?;
+    let mut row = first;
     for child in children {
         let id = child.id;
         ids.push(ChildId {
@@ -69,7 +78,9 @@ fn parted(alloc: Global, children: Vec<Child>) -> Result<(Vec<ChildId>, Vec<Belo
         below.push(Below {
             rest: child.rest,
             has_value: child.has_value,
+            row,
         })?;
+        row = behind(sizes, row);
     }
     Ok((ids, below))
 }
@@ -92,46 +103,63 @@ fn whole(alloc: Global, ids: &[ChildId], below: &[Below]) -> Result<Vec<Child>, 
     Ok(made)
 }
 
-/// The rest of the child at a token.
-fn rest_at(
+/// The rest of the child at a token, and where its row may stand.
+fn led_at(
     alloc: Global,
     ids: &[ChildId],
     below: &[Below],
     token: u16,
-) -> Result<Option<Key>, NoMemory>
+) -> Result<Option<(Key, u32)>, NoMemory>
     requires { length ids.now ≡ length below.now }
-    ensures { IfOk result (λ rest. rest ≡ rest_of (child_at token (joined_all ids.now below.now))) }
+    ensures { IfOk result (λ led. option_map (λ led. led.0) led ≡ rest_of (child_at token (joined_all ids.now below.now))) }
 {
     for (at, child) in ids.iter().enumerate() {
         if child.index == token {
-            return Ok(Some(copy_key(alloc, &below[at].rest)?));
+            let part = &below[at];
+            return Ok(Some((copy_key(alloc, &part.rest)?, part.row)));
         }
     }
     Ok(None)
 }
 
-/// The rest of the child at a token, where one is asked for.
-fn rest_named(
+/// The rest of the child at a token, where one is asked for, and where its row may stand.
+fn led_by(
     alloc: Global,
     ids: &[ChildId],
     below: &[Below],
     token: Option<u16>,
-) -> Result<Option<Key>, NoMemory>
+) -> Result<Option<(Key, u32)>, NoMemory>
     requires { length ids.now ≡ length below.now }
-    ensures { IfOk result (λ rest. rest ≡ rest_of (child_named token (joined_all ids.now below.now))) }
+    ensures { IfOk result (λ led. option_map (λ led. led.0) led ≡ rest_of (child_named token (joined_all ids.now below.now))) }
 {
     match token {
-        Some(token) => rest_at(alloc, ids, below, token),
+        Some(token) => led_at(alloc, ids, below, token),
         None => Ok(None),
     }
 }
 
+/// Both in two pieces; the row is the first one where no child is there.
+fn apart(led: Option<(Key, u32)>) -> (Option<Key>, u32)
+    ensures { result.0 ≡ option_map (λ led. led.0) led }
+{
+    match led {
+        Some((rest, row)) => (Some(rest), row),
+        None => (None, 0),
+    }
+}
+
 impl KeptNode {
-    /// A node in its pieces.
-    pub(crate) fn of_node(alloc: Global, node: Node) -> Result<KeptNode, NoMemory>
+    /// A node in its pieces, whose first child may have its row at that place. Each row of a child stands behind
+    /// all that are below the child before it, by their numbers.
+    pub(crate) fn of_node(
+        alloc: Global,
+        node: Node,
+        first: u32,
+        sizes: &[u32],
+    ) -> Result<KeptNode, NoMemory>
         ensures { IfOk result (λ kept. kept ≡ node) }
     {
-        let (ids, below) = parted(alloc, node.children)?;
+        let (ids, below) = parted(alloc, node.children, first, sizes)?;
         Ok(KeptNode {
             digest: node.digest,
             ids,
@@ -149,16 +177,22 @@ impl KeptNode {
         })
     }
 
-    /// What a path shows of it, with the rest of the child at a token, where one is asked for.
-    pub(crate) fn shown(&self, alloc: Global, token: Option<u16>) -> Result<ShownNode, NoMemory>
-        ensures { IfOk result (λ shown. shown ≡ shown_of token self.now) }
+    /// What a path shows of it, with the rest of the child at a token, where one is asked for. And where the row
+    /// of that child may stand.
+    pub(crate) fn shown(
+        &self,
+        alloc: Global,
+        token: Option<u16>,
+    ) -> Result<(ShownNode, u32), NoMemory>
+        ensures { IfOk result (λ made. made.0 ≡ shown_of token self.now) }
     {
         let ids = self.ids.as_slice();
-        let rest = rest_named(alloc, ids, self.below.as_slice(), token)?;
-        Ok(ShownNode {
+        let (rest, row) = apart(led_by(alloc, ids, self.below.as_slice(), token)?);
+        let shown = ShownNode {
             digest: copy_digest(&self.digest),
             children: Vec::from_slice(alloc, ids)?,
             rest,
-        })
+        };
+        Ok((shown, row))
     }
 }

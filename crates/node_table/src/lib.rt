@@ -6,7 +6,7 @@
 #![tactic(auto)]
 
 mod kept;
-mod places;
+mod sizes;
 mod source;
 mod table;
 #[cfg(test)]

@@ -14,7 +14,7 @@ ghost use Rattle.trie_items.specs.Sources.{first_key, row_of};
 ghost use Rattle.node_table.specs.Rows.{row_key};
 
 use crate::kept::KeptNode;
-use crate::places::Places;
+use crate::sizes::sizes_of;
 use bit_keys::{Id, Key};
 use map_root::Builder;
 use mdb_base::NoMemory;
@@ -28,8 +28,8 @@ use trie_items::{ShownNode, Steps};
 #[derive(Drop)]
 pub struct NodeTable {
     rows: Vec<(Key, KeptNode)>,
-    /// Asked before the rows are searched.
-    places: Places,
+    /// The row to which the last answer leads. It is looked at before the rows are searched.
+    next: u32,
 }
 
 impl Model for NodeTable {
@@ -46,12 +46,18 @@ impl Model for NodeTable {
 }
 
 /// The rows as the table keeps them.
-fn kept_rows(alloc: Global, rows: Vec<(Key, Node)>) -> Result<Vec<(Key, KeptNode)>, NoMemory>
+fn kept_rows(
+    alloc: Global,
+    rows: Vec<(Key, Node)>,
+    sizes: &[u32],
+) -> Result<Vec<(Key, KeptNode)>, NoMemory>
     ensures { IfOk result (λ made. made.items ≡ rows.items) }
 {
     let mut made = Vec::with_capacity(alloc, rows.len())?;
+    let mut first = 0u32;
     for (key, node) in rows {
-        made.push((key, KeptNode::of_node(alloc, node)?))?;
+        first = first.saturating_add(1);
+        made.push((key, KeptNode::of_node(alloc, node, first, sizes)?))?;
     }
     Ok(made)
 }
@@ -59,15 +65,14 @@ fn kept_rows(alloc: Global, rows: Vec<(Key, Node)>) -> Result<Vec<(Key, KeptNode
 impl NodeTable {
     /// A table of nodes with keys that rise, as those are that `Builder::finish` gives.
     ///
-    /// It takes eight bytes a row for finding rows by their keys. Where there is no memory for them they are
-    /// found more slowly.
+    /// Each node is told where the rows of its children stand, so that a way down from the root takes no search.
     pub fn new(alloc: Global, rows: Vec<(Key, Node)>) -> Result<NodeTable, NoMemory>
         requires { IsRising (map row_key rows.items) }
         ensures { IfOk result (λ table. table ≡ rows.items) }
     {
-        let rows = kept_rows(alloc, rows)?;
-        let places = Places::of_rows(alloc, rows.as_slice());
-        Ok(NodeTable { rows, places })
+        let sizes = sizes_of(alloc, rows.as_slice())?;
+        let rows = kept_rows(alloc, rows, sizes.as_slice())?;
+        Ok(NodeTable { rows, next: 0 })
     }
 
     /// The root and the table of what a builder was told. `steps` counts as in `Builder::finish`.
@@ -98,15 +103,13 @@ impl NodeTable {
         }
     }
 
-    /// The node at a key, where the places name its row.
-    fn named(&self, key: &Key) -> Option<&KeptNode>
+    /// The node at a key, where the last answer leads to its row.
+    fn led(&self, key: &Key) -> Option<&KeptNode>
         ensures { IfSome result (λ node. row_of key.now self.now ≡ Some node.now) }
     {
-        for place in self.places.of(key) {
-            let at = *place as usize;
-            if at < self.rows.len() && self.rows[at].0 == *key {
-                return Some(&self.rows[at].1);
-            }
+        let at = self.next as usize;
+        if at < self.rows.len() && self.rows[at].0 == *key {
+            return Some(&self.rows[at].1);
         }
         None
     }
@@ -124,7 +127,7 @@ impl NodeTable {
     fn found(&self, key: &Key) -> Option<&KeptNode>
         ensures { option_copied result ≡ row_of key.now self.now }
     {
-        match self.named(key) {
+        match self.led(key) {
             Some(node) => Some(node),
             None => self.searched(key),
         }
@@ -140,18 +143,22 @@ impl NodeTable {
         }
     }
 
-    /// What a path shows of the node at a key, where there is one, with the rest of the child at a token.
+    /// What a path shows of the node at a key, where there is one, with the rest of the child at a token. The next
+    /// call finds that child, and behind the last node of a way the root, without a search.
     pub fn shown(
-        &self,
+        &mut self,
         alloc: Global,
         key: &Key,
         token: Option<u16>,
     ) -> Result<Option<ShownNode>, NoMemory>
-        ensures { IfOk result (λ shown. shown ≡ option_map (shown_of token) (row_of key.now self.now)) }
+        ensures shown { IfOk result (λ shown. shown ≡ option_map (shown_of token) (row_of key.now self.old)) }
+        ensures stays { self.new ≡ self.old }
     {
-        match self.found(key) {
-            Some(node) => Ok(Some(node.shown(alloc, token)?)),
-            None => Ok(None),
-        }
+        let Some(node) = self.found(key) else {
+            return Ok(None);
+        };
+        let (shown, next) = node.shown(alloc, token)?;
+        self.next = next;
+        Ok(Some(shown))
     }
 }

@@ -1,12 +1,12 @@
 // A map of three keys in memory, looked up. The nodes are those of the worked table of `trie_model`.
 ghost use Rattle.std.specs.Prelude.{◌≡◌, ◌<◌};
 
-use crate::places::Places;
+use crate::sizes::{behind, sizes_of};
 use crate::{NodeTable, TableSource};
 use bit_keys::{Branch, Id, Key};
 use map_root::Builder;
 use mdb_base::NoMemory;
-use node_codec::Node;
+use node_codec::{Child, Node};
 use std::alloc::Global;
 use std::marker::Brand;
 use std::process::Abort;
@@ -112,23 +112,36 @@ fn pairs_out_of_order_make_no_source(rt: HostRuntime) -> Result<(), Fail> {
     Ok(())
 }
 
+// A node of so many children, whose rests and IDs do not matter.
+fn node_of(alloc: Global, count: u16) -> Result<Node, Fail> {
+    let mut children = Vec::new(alloc);
+    for index in 0..count {
+        let rest = Key::from_bytes(alloc, &[])?;
+        children.push(Child {
+            index,
+            rest,
+            id: ONE,
+            has_value: true,
+        })?;
+    }
+    Ok(Node {
+        digest: None,
+        children,
+    })
+}
+
 #[test]
-fn each_row_is_named_by_the_hash_of_its_key(rt: HostRuntime) -> Result<(), Fail> {
+fn a_node_takes_its_row_and_those_below_it(rt: HostRuntime) -> Result<(), Fail> {
     let alloc = rt.alloc();
+    // A root of two children, the first of which has two as well.
     let mut rows = Vec::new(alloc);
-    for byte in 0..20 {
-        let children = Vec::new(alloc);
-        let node = Node {
-            digest: None,
-            children,
-        };
-        rows.push((Key::from_bytes(alloc, &[byte])?, node))?;
-    }
-    let places = Places::of_rows(alloc, rows.as_slice());
-    for byte in 0..20 {
+    for (byte, children) in [(0, 2), (1, 2), (2, 0), (3, 0), (4, 0)] {
         let key = Key::from_bytes(alloc, &[byte])?;
-        assert!(rt; places.of(&key).contains(&u32::from(byte)), "row {byte}");
+        rows.push((key, node_of(alloc, children)?))?;
     }
+    let sizes = sizes_of(alloc, rows.as_slice())?;
+    assert_eq!(rt; sizes.as_slice(), [5, 3, 1, 1, 1].as_slice());
+    assert_eq!(rt; behind(sizes.as_slice(), 1), 4);
     Ok(())
 }
 

@@ -14,7 +14,7 @@ use std::alloc::Global;
 use trie_items::{NodeSource, SourceFault};
 
 /// Room for so many nodes is made at once for a path.
-const USUAL_LENGTH: usize = 8;
+const USUAL_LENGTH: usize = 24;
 
 /// Whether these bits stand behind the first `bits` bits of `wanted`.
 fn stands_behind(alloc: Global, wanted: &Key, bits: u64, rest: &Key) -> Result<bool, NoMemory>

@@ -10,8 +10,9 @@ pub returns : goal.returns
 returns c =
     let inside = c.self.inside in
     let below = c.as_slice.result.now in
-    let rest = c.in_ok-rest.ensures
+    let rest = c.apart-rest.ensures
+    ∙ c.in_ok-led_by.ensures
     ∙ ap (λ (ids : List ChildId). rest_of (child_named c.args.token (joined_all ids below))) c.as_slice-ids.ensures.value
     ∙ ap (λ (bs : List Below). rest_of (child_named c.args.token (joined_all inside.ids.items bs))) c.as_slice.ensures.value in
-    shown_is c.args.self.now inside.digest c.copy_digest.result inside.ids.items c.in_ok-from_slice.field-0.items inside.below.items c.in_ok-rest.rest c.args.token (sym c.self.view_is) c.self.invariant c.copy_digest.ensures
+    shown_is c.args.self.now inside.digest c.copy_digest.result inside.ids.items c.in_ok-from_slice.field-0.items inside.below.items c.apart-rest.result.0 c.args.token (sym c.self.view_is) c.self.invariant c.copy_digest.ensures
     (c.in_ok-from_slice.ensures.items ∙ c.as_slice-ids.ensures.value) rest
